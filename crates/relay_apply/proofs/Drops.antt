@@ -10,7 +10,7 @@ use Rattle.relay_apply.specs.declared.insert_target.InsertTarget.TheVariants as 
 use Rattle.relay_patch.specs.Walk.{then_do, element, step}
 use Rattle.relay_patch.specs.declared.fault.Cause.TheVariants.{Missing}
 use Rattle.relay_patch.specs.Patch.{drop_child, drop_element}
-use Rattle.relay_apply.specs.Steps.{insertion_index, landing_in, shifted, shifted_index}
+use Rattle.relay_apply.specs.Steps.{insertion_index, resolve_insert_in, shifted, shifted_index}
 use Rattle.relay_patch.proofs.Refusals.{then_ok, ok_or_some}
 
 -- Lists.
@@ -49,23 +49,24 @@ fewer ms t rest h =
 
 -- Where a token inserts.
 
-pub lands_in_shorter : (d : Document) (n k : ℕ) (gone t : Token) (rest : Document)
+pub resolve_insert_in-shorter : (d : Document) (n k : ℕ) (gone t : Token) (rest : Document)
     → list_len d ≡ Some n → k ≡ n - 1 → drop_child gone d ≡ Ok rest
-    → then_do (insertion_index k t) (λ i. Ok (insert_target.Item i)) ≡ landing_in rest t
-lands_in_shorter (list ds) n k gone t rest len one h =
+    → then_do (insertion_index k t) (λ i. Ok (insert_target.Item i)) ≡ resolve_insert_in rest t
+resolve_insert_in-shorter (list ds) n k gone t rest len one h =
     let s = shorter ds gone rest h in
     let shorter_by = (drop_item-shorter ds s.index s.items s.gone).0 in
     let long : items_length ds ≡ n = cc in
     let same : k ≡ items_length s.items = omega arith in
     rw (s.is, same) refl
-lands_in_shorter _ n k gone t rest len one h = cc
+resolve_insert_in-shorter _ n k gone t rest len one h = cc
 
-pub lands_in_fewer : (d : Document) (gone t : Token) (rest : Document) → list_len d ≡ None
-    → bytes_eq gone t ≡ false → drop_child gone d ≡ Ok rest → landing_in d t ≡ landing_in rest t
-lands_in_fewer (object ms) gone t rest len other h =
+pub resolve_insert_in-fewer : (d : Document) (gone t : Token) (rest : Document) → list_len d ≡ None
+    → bytes_eq gone t ≡ false → drop_child gone d ≡ Ok rest
+    → resolve_insert_in d t ≡ resolve_insert_in rest t
+resolve_insert_in-fewer (object ms) gone t rest len other h =
     let s = fewer ms gone rest h in
     rw (s.is, member_at-drop_other ms gone t s.members other s.gone) refl
-lands_in_fewer _ gone t rest len other h = cc
+resolve_insert_in-fewer _ gone t rest len other h = cc
 
 -- What a token names.
 

@@ -1,10 +1,10 @@
-pub mod Spots
+pub mod Resolved
 pub mod Drops
-pub mod Landings
+pub mod InsertWithout
 pub mod Stays
-pub mod Landed
+pub mod Targets
 pub mod Compared
-pub mod Recorded
+pub mod ChangeOf
 pub mod Contained
 pub mod Spent
 pub mod Overspent
@@ -12,6 +12,6 @@ pub mod Folds
 pub mod Measures
 pub mod Puts
 pub mod Undone
-pub mod Regained
+pub mod Reinserted
 pub mod Slides
-mod Carries
+mod Transfers

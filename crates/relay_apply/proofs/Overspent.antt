@@ -20,9 +20,9 @@ use Rattle.relay_patch.specs.declared.change.Change.{Change}
 use Rattle.relay_patch.specs.declared.change.Change.TheVariants as change
 use Rattle.relay_patch.specs.Weight.{changes_weight}
 use Rattle.relay_patch.specs.After.{performed}
-use Rattle.relay_apply.specs.Steps.{InsertTarget, landing, IsOverspent}
+use Rattle.relay_apply.specs.Steps.{InsertTarget, resolve_insert, IsOverspent}
 use Rattle.relay_patch.proofs.Exchanges.{replaced_fails, replaced_passes}
-use Rattle.relay_apply.proofs.Landed.{landing_passes, landing_refuses}
+use Rattle.relay_apply.proofs.Targets.{insert_passes, insert_refuses}
 
 -- what is not enough for a value is not enough for it and its path
 with_path : (path v : ℕ) (left : Budget) → paid v left ≡ None → paid (path + v + 0) left ≡ None
@@ -39,7 +39,7 @@ added_weight true there d place path v = (path_weight place.path, refl)
 added_weight false true d place path v = (path_weight path, refl)
 added_weight false false d place path v = (path_weight path, refl)
 
-pub added_here : (d : Document) (path : Path) (s : InsertTarget) → landing d path ≡ Ok s
+pub added_here : (d : Document) (path : Path) (s : InsertTarget) → resolve_insert d path ≡ Ok s
     → (v : Document) (left : Budget) → paid (weight v) left ≡ None
     → IsOverspent d (Add path v) left TooHeavy
 added_here d path s there v left none =
@@ -47,13 +47,13 @@ added_here d path s there v left none =
     added_weight (place_of d path).item (is_some (at d path)) d (place_of d path) path v in
     inr (
       refl,
-      landing_passes path d s there v,
+      insert_passes path d s there v,
       subst (λ n. paid n left ≡ None) (sym weighs.1) (with_path weighs.0 (weight v) left none),
     )
 
-pub added_nowhere : (d : Document) (path : Path) (e : Cause) → landing d path ≡ Err e
+pub added_nowhere : (d : Document) (path : Path) (e : Cause) → resolve_insert d path ≡ Err e
     → (v : Document) (left : Budget) → IsOverspent d (Add path v) left e
-added_nowhere d path e fails v left = inl (landing_refuses path d e fails v)
+added_nowhere d path e fails v left = inl (insert_refuses path d e fails v)
 
 pub replaced_here : (d : Document) (path : Path) (c : Document) → walk d path ≡ Ok c
     → (v : Document) (left : Budget) → paid (weight v) left ≡ None

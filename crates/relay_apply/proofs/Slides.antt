@@ -24,7 +24,7 @@ use Rattle.relay_patch.proofs.Parts.{at_index, place_in_at_index}
 use Rattle.relay_patch.proofs.Walks.{at_reached}
 use Rattle.relay_patch.proofs.Sites.{parent-last}
 use Rattle.relay_patch.proofs.Exchanges.{at_end, replaced-is, replaced-twice, walk-replaced}
-use Rattle.relay_apply.proofs.Regained.{insert_item-drop, taken}
+use Rattle.relay_apply.proofs.Reinserted.{insert_item-drop, taken}
 
 -- Items.
 
@@ -109,7 +109,7 @@ record Slide (p q : Path) (d n : Document) : Type 0 where
   low : ℕ
   high : ℕ
   named : index_of (last_of p) ≡ Some low
-  lands : index_of (last_of q) ≡ Some high
+  resolved : index_of (last_of q) ≡ Some high
   inside : low < items_length items
   within : high < items_length items
   there : at d (front p) ≡ Some (list items)
@@ -179,7 +179,7 @@ slide_at t u p q d b v n same went there came =
       low = x.index;
       high = i.index;
       named = x.named;
-      lands = i.named;
+      resolved = i.named;
       inside = taken_out.1;
       within = omega (arith, taken_out.0, put_in.0, high);
       there = at_reached before d (list x.items) x.there;
@@ -215,7 +215,7 @@ slides_so from to d v n e path a b one m here low high few made =
         let there : at d path ≡ Some (list s.items) = ap (at d) here ∙ s.there in
         let count = few s.items there in
         let first : a ≡ s.low = low s.low s.named (omega (arith, count, s.inside)) in
-        let second : b ≡ s.high = high s.high s.lands (omega (arith, count, s.within)) in
+        let second : b ≡ s.high = high s.high s.resolved (omega (arith, count, s.within)) in
         let new : e ≡ put d path (list s.later) = made ∙ rw (there, first, second, s.slides) refl in
         let old : with_part (slid b a) path (at e path) e ≡ d =
         rw (

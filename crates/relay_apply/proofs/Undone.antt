@@ -18,8 +18,8 @@ use Rattle.relay_patch.specs.Patch.{Act, replaced, insert_child, insert_element,
 use Rattle.relay_patch.specs.Change.{Makes, in_list, in_object, inserted, inserted_at}
 use Rattle.relay_patch.specs.declared.change.Change.{Change}
 use Rattle.relay_patch.specs.Measure.{displaced, gone}
-use Rattle.relay_apply.specs.declared.seat.Seat.{Seat}
-use Rattle.relay_apply.specs.Undo.{target, brought, went, reseated, lifted, moved_back, undone, taken_back}
+use Rattle.relay_apply.specs.declared.reinsertion.Reinsertion.{Reinsertion}
+use Rattle.relay_apply.specs.Undo.{target, undo_of_put, removed_part, reinserted, put_undone, transfer_undone, undone, taken_back}
 use Rattle.relay_apply.specs.declared.undo.Undo.{Undo}
 use Rattle.relay_patch.specs.declared.change.Change.TheVariants as change
 use Rattle.relay_patch.proofs.Refusals.{then_ok, ok_or_some}
@@ -30,8 +30,8 @@ use Rattle.relay_patch.proofs.Made.{at_last}
 use Rattle.relay_patch.proofs.Exchanges.{replaced-is}
 use Rattle.relay_patch.proofs.Fits.{inserted_stands}
 use Rattle.relay_apply.proofs.Puts.{sets}
-use Rattle.relay_apply.specs.Steps.{standing}
-use Rattle.relay_apply.proofs.Landed.{standing_passes, standing_refuses}
+use Rattle.relay_apply.specs.Steps.{resolve_existing}
+use Rattle.relay_apply.proofs.Targets.{removal_passes, removal_refuses}
 
 -- An insertion, dropped again.
 
@@ -96,7 +96,7 @@ object_back v (t ∷ path) d d' none h =
 -- A change that only puts a value at a path, taken back.
 
 pub exchange_back : (path : Path) (v d d' w : Document) → at d path ≡ Some w
-    → replaced path v d ≡ Ok d' → undone (brought path (Some w)) d' ≡ d
+    → replaced path v d ≡ Ok d' → undone (undo_of_put path (Some w)) d' ≡ d
 exchange_back path v d d' w there h =
     let r = replaced-is path v d d' h in
     rw r.2 (put-back d path w v there)
@@ -111,7 +111,7 @@ copy_dropped false (t ∷ path) v d d' none h = object_back v (t ∷ path) d d' 
 
 copy_back : (item : Bool) (path : Path) (v d d' : Document)
     → (if item then None else at d path) ≡ None → inserted_at item path v d ≡ Ok d'
-    → undone (brought path None) d' ≡ d
+    → undone (undo_of_put path None) d' ≡ d
 copy_back item path v d d' none h = rw (copy_dropped item path v d d' none h) refl
 
 displaced_there : (item : Bool) (path : Path) (d w : Document)
@@ -120,27 +120,27 @@ displaced_there true path d w h = cc
 displaced_there false path d w h = h
 
 pub copied_back : (place : Place) (v d d' : Document) → inserted place v d ≡ Ok d'
-    → undone (brought place.path (displaced place d)) d' ≡ d
+    → undone (undo_of_put place.path (displaced place d)) d' ≡ d
 copied_back place v d d' h = go (displaced place d) refl
   where
-    go : (o : Option Document) → displaced place d ≡ o → undone (brought place.path o) d' ≡ d
+    go : (o : Option Document) → displaced place d ≡ o → undone (undo_of_put place.path o) d' ≡ d
     go (Some w) e =
         exchange_back place.path v d d' w (displaced_there place.item place.path d w e)
         (sets place v d d' w e h)
     go None e = copy_back place.item place.path v d d' e h
 
 set_back : (path : Path) (v d d' : Document) → replaced path v d ≡ Ok d'
-    → undone (brought path (at d path)) d' ≡ d
+    → undone (undo_of_put path (at d path)) d' ≡ d
 set_back path v d d' h =
     let r = replaced-is path v d d' h in rw r.1 (exchange_back path v d d' r.0 r.1 h)
 
 at_target : (path p : Path) (o : Option Document) (d d' : Document) → Some path ≡ Some p
-    → undone (brought path o) d' ≡ d → undone (brought p o) d' ≡ d
+    → undone (undo_of_put path o) d' ≡ d → undone (undo_of_put p o) d' ≡ d
 at_target path p o d d' is h =
-    let same : path ≡ p = cc in subst (λ q. undone (brought q o) d' ≡ d) same h
+    let same : path ≡ p = cc in subst (λ q. undone (undo_of_put q o) d' ≡ d) same h
 
 pub change_back : (c : Change) (p : Path) (d d' : Document) → target c ≡ Some p → Makes d c d'
-    → undone (brought p (gone d c)) d' ≡ d
+    → undone (undo_of_put p (gone d c)) d' ≡ d
 change_back (change.Set path v) p d d' is m =
     at_target path p (at d path) d d' is (set_back path v d d' m)
 change_back (change.AddMember path v) p d d' is m =
@@ -151,9 +151,9 @@ change_back (change.Copy from to v) p d d' is m =
     at_target to.path p (displaced to d) d d' is (copied_back to v d d' m.1)
 change_back _ p d d' is m = cc
 
-pub brought_went : (p : Path) (o : Option Document) → went (brought p o) ≡ o
-brought_went p (Some part) = refl
-brought_went p None = refl
+pub undo_of_put-removed : (p : Path) (o : Option Document) → removed_part (undo_of_put p o) ≡ o
+undo_of_put-removed p (Some part) = refl
+undo_of_put-removed p None = refl
 
 -- Lists of records.
 
@@ -184,42 +184,45 @@ puts_always d n v path (Some w) is missing found = found
 
 -- A value that is there can be dropped.
 
-pub stands_drops : (r : Result Bool Cause) (path : Path) (d : Document) → r ≡ standing d path
+pub existing_drops : (r : Result Bool Cause) (path : Path) (d : Document)
+    → r ≡ resolve_existing d path
     → is_ok r ≡ true → IsOk (at_path drop_child path d)
-stands_drops (Ok b) path d is h = standing_passes path d b (sym is)
-stands_drops (Err e) path d is h = cc
+existing_drops (Ok b) path d is h = removal_passes path d b (sym is)
+existing_drops (Err e) path d is h = cc
 
-pub stands_not : (r : Result Bool Cause) (path : Path) (d : Document) → r ≡ standing d path
+pub missing_refuses : (r : Result Bool Cause) (path : Path) (d : Document)
+    → r ≡ resolve_existing d path
     → is_ok r ≡ false → (e : Cause) × (at_path drop_child path d ≡ Err e)
-stands_not (Ok b) path d is h = cc
-stands_not (Err e) path d is h = (e, standing_refuses path d e (sym is))
+missing_refuses (Ok b) path d is h = cc
+missing_refuses (Err e) path d is h = (e, removal_refuses path d e (sym is))
 
--- A value that was lifted from its path.
+-- A value that was put at a path, removed again.
 
 -- what is dropped at a path, as the value there and the rest
-pub lifts : (path : Path) (d e v : Document) → walk d path ≡ Ok v
-    → at_path drop_child path d ≡ Ok e → Some (v, e) ≡ lifted None path d
-lifts path d e v there went = rw (went, at_reached path d v there) refl
+pub undoes_insert : (path : Path) (d e v : Document) → walk d path ≡ Ok v
+    → at_path drop_child path d ≡ Ok e → Some (v, e) ≡ put_undone None path d
+undoes_insert path d e v there went = rw (went, at_reached path d v there) refl
 
-pub lifts_not : (path : Path) (d : Document) (e : Cause) → at_path drop_child path d ≡ Err e
-    → None ≡ lifted None path d
-lifts_not path d e fails = rw fails refl
+pub undoes_no_insert : (path : Path) (d : Document) (e : Cause) → at_path drop_child path d ≡ Err e
+    → None ≡ put_undone None path d
+undoes_no_insert path d e fails = rw fails refl
 
--- an exchange lifts the value that was there
-pub lifts_exchanged : (d n part : Document) (path : Path) (o : Option Document) → o ≡ at d path
-    → IfSome o (λ _. n ≡ put d path part) → option_map (λ v. (v, n)) o ≡ lifted (Some part) path d
-lifts_exchanged d n part path None is new = rw (← is) refl
-lifts_exchanged d n part path (Some w) is new = rw (← is, new) refl
+-- an exchange removes the value that was there
+pub undoes_exchange : (d n part : Document) (path : Path) (o : Option Document) → o ≡ at d path
+    → IfSome o (λ _. n ≡ put d path part)
+    → option_map (λ v. (v, n)) o ≡ put_undone (Some part) path d
+undoes_exchange d n part path None is new = rw (← is) refl
+undoes_exchange d n part path (Some w) is new = rw (← is, new) refl
 
--- the value that moved to a place, lifted again
-pub lifted_again : (place : Place) (v d d' : Document) → inserted place v d ≡ Ok d'
-    → lifted (displaced place d) place.path d' ≡ Some (v, d)
-lifted_again place v d d' h = go (displaced place d) refl
+-- undoing a put gives the value and the document before it
+pub put_then_undone : (place : Place) (v d d' : Document) → inserted place v d ≡ Ok d'
+    → put_undone (displaced place d) place.path d' ≡ Some (v, d)
+put_then_undone place v d d' h = go (displaced place d) refl
   where
     there : at d' place.path ≡ Some v
     there = at_reached place.path d' v (inserted_stands place.item place.path v d d' h)
 
-    go : (o : Option Document) → displaced place d ≡ o → lifted o place.path d' ≡ Some (v, d)
+    go : (o : Option Document) → displaced place d ≡ o → put_undone o place.path d' ≡ Some (v, d)
     go (Some w) e =
         let back =
         exchange_back place.path v d d' w (displaced_there place.item place.path d w e)
@@ -227,7 +230,9 @@ lifted_again place v d d' h = go (displaced place d) refl
         rw there (ap (λ x. Some (v, x)) back)
     go None e = rw (copy_dropped place.item place.path v d d' e h, there) refl
 
--- what a move kept takes it back
-pub moved_again : (seat : Seat) (place : Place) (v d d' : Document) → inserted place v d ≡ Ok d'
-    → moved_back seat (lifted (displaced place d) place.path d') d' ≡ reseated seat v d
-moved_again seat place v d d' h = ap (λ o. moved_back seat o d') (lifted_again place v d d' h)
+-- what a transfer kept takes it back
+pub transfer_then_undone : (r : Reinsertion) (place : Place) (v d d' : Document)
+    → inserted place v d ≡ Ok d'
+    → transfer_undone r (put_undone (displaced place d) place.path d') d' ≡ reinserted r v d
+transfer_then_undone r place v d d' h =
+    ap (λ o. transfer_undone r o d') (put_then_undone place v d d' h)

@@ -29,29 +29,31 @@ abbrev pub insertion_index : ℕ → Token → Result ℕ Cause
 insertion_index n t = if is_dash t then Ok n else index_within n (index_of t)
 
 -- where a token inserts in a container
-abbrev pub landing_in : Document → Token → Result InsertTarget Cause
-landing_in (list ds) t =
+abbrev pub resolve_insert_in : Document → Token → Result InsertTarget Cause
+resolve_insert_in (list ds) t =
     then_do (insertion_index (items_length ds) t) (λ i. Ok (insert_target.Item i))
-landing_in (object ms) t = Ok (insert_target.Member (is_some (member_at ms t)))
-landing_in _ t = Err NoContainer
+resolve_insert_in (object ms) t = Ok (insert_target.Member (is_some (member_at ms t)))
+resolve_insert_in _ t = Err NoContainer
 
 -- where an insertion at a path goes
-abbrev pub landing : Document → Path → Result InsertTarget Cause
-landing d [] = Ok insert_target.Root
-landing d (t ∷ path) = then_do (walk d (parent t path)) (λ c. landing_in c (last t path))
+abbrev pub resolve_insert : Document → Path → Result InsertTarget Cause
+resolve_insert d [] = Ok insert_target.Root
+resolve_insert d (t ∷ path) =
+    then_do (walk d (parent t path)) (λ c. resolve_insert_in c (last t path))
 
 abbrev pub is_list : Document → Bool
 is_list (list ds) = true
 is_list _ = false
 
 -- whether the part that a token names is an element
-abbrev pub standing_in : Document → Token → Result Bool Cause
-standing_in c t = then_do (step c t) (λ _. Ok (is_list c))
+abbrev pub resolve_existing_in : Document → Token → Result Bool Cause
+resolve_existing_in c t = then_do (step c t) (λ _. Ok (is_list c))
 
 -- whether the part at a path is an element
-abbrev pub standing : Document → Path → Result Bool Cause
-standing d [] = Err Root
-standing d (t ∷ path) = then_do (walk d (parent t path)) (λ c. standing_in c (last t path))
+abbrev pub resolve_existing : Document → Path → Result Bool Cause
+resolve_existing d [] = Err Root
+resolve_existing d (t ∷ path) =
+    then_do (walk d (parent t path)) (λ c. resolve_existing_in c (last t path))
 
 -- the last token of the place of an insertion, with `-` replaced by the index
 abbrev pub final : InsertTarget → Token → Token
@@ -63,9 +65,9 @@ is_item (insert_target.Item i) = true
 is_item _ = false
 
 -- the place of an insertion at a path, given its target
-abbrev pub landed : InsertTarget → Path → Place
-landed s [] = record { path = []; item = is_item s }
-landed s (t ∷ path) =
+abbrev pub insert_place : InsertTarget → Path → Place
+insert_place s [] = record { path = []; item = is_item s }
+insert_place s (t ∷ path) =
     record { path = parent t path ++ final s (last t path) ∷ []; item = is_item s }
 
 abbrev pub shifted_index : ℕ → Option ℕ → Option ℕ → Option ℕ

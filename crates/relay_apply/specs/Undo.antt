@@ -1,6 +1,6 @@
--- How changes are taken back: a replaced part is put back, an inserted one is dropped, a value that
--- was removed is put into its place again, also one that was moved elsewhere, and an element that
--- slid within its list slides back.
+-- How changes are taken back: a replaced part is put back, an inserted value is dropped, a removed
+-- one is reinserted, a transferred one is removed from where it was put and reinserted where it was
+-- before, and an element that slid within its list slides back.
 use Rattle.std.specs.Prelude.{ℕ, List, [], ◌∷◌, Option, Some, None, option_map, option_and_then, Result, Ok, Err, nat_lt, if◌then◌else◌, vec_capacity, string_bytes}
 use Rattle.std.specs.Result.{result_ok}
 use Rattle.relay_tree.specs.Document.{Document, list, object, Items}
@@ -10,8 +10,8 @@ use Rattle.relay_pointer.specs.Path.{Path, at, put}
 use Rattle.relay_patch.specs.declared.fault.Cause.{Cause}
 use Rattle.relay_patch.specs.Patch.{at_path, drop_child}
 use Rattle.relay_patch.specs.declared.change.Change.{Change}
-use Rattle.relay_apply.specs.declared.seat.Seat.{Seat}
-use Rattle.relay_apply.specs.declared.seat.Seat.TheVariants as seat
+use Rattle.relay_apply.specs.declared.reinsertion.Reinsertion.{Reinsertion}
+use Rattle.relay_apply.specs.declared.reinsertion.Reinsertion.TheVariants as reinsertion
 use Rattle.relay_apply.specs.declared.undo.Undo.{Undo}
 use Rattle.relay_apply.specs.declared.undo.Undo.TheVariants as undo
 use Rattle.relay_patch.specs.declared.change.Change.TheVariants as change
@@ -26,19 +26,18 @@ target (change.DropItem path) = None
 target (change.Move from to v) = None
 target (change.Copy from to v) = Some to.path
 
--- the record of a value that was put at the path: the part that it replaced, or that it was
--- inserted
-abbrev pub brought : Path → Option Document → Undo
-brought path (Some part) = undo.Part path part
-brought path None = undo.Inserted path
+-- what takes back that a value was put at the path, given the part that the value replaced
+abbrev pub undo_of_put : Path → Option Document → Undo
+undo_of_put path (Some part) = undo.Part path part
+undo_of_put path None = undo.Inserted path
 
--- the part that the change of which this is the record removed or replaced
-abbrev pub went : Undo → Option Document
-went (undo.Part path part) = Some part
-went (undo.Inserted path) = None
-went (undo.Removed gone) = Some gone.value
-went (undo.Moved place path part) = part
-went (undo.Slid path i j) = None
+-- the part that the change removed or replaced
+abbrev pub removed_part : Undo → Option Document
+removed_part (undo.Part path part) = Some part
+removed_part (undo.Inserted path) = None
+removed_part (undo.Removed gone) = Some gone.value
+removed_part (undo.Transferred r path part) = part
+removed_part (undo.Slid path i j) = None
 
 abbrev pub or_same : Result Document Cause → Document → Document
 or_same (Ok e) d = e
@@ -48,22 +47,23 @@ abbrev pub or_items : Option Items → Items → Items
 or_items (Some es) ds = es
 or_items None ds = ds
 
--- the elements with e inserted at the index, if `capacity` has space for one more and the index is
--- not past the end; otherwise unchanged
-abbrev pub refilled_items : ℕ → ℕ → Document → Items → Items
-refilled_items capacity i e ds =
+-- the elements with e inserted at the index, if one more fits into `capacity` and the index is not
+-- past the end; otherwise unchanged
+abbrev pub reinserted_items : ℕ → ℕ → Document → Items → Items
+reinserted_items capacity i e ds =
     if nat_lt (items_length ds) capacity then or_items (insert_item ds i e) ds else ds
 
-abbrev pub refilled : ℕ → ℕ → Document → Document → Document
-refilled capacity i e (list ds) = list (refilled_items capacity i e ds)
-refilled capacity i e d = d
+-- the same of a list; any other document is unchanged
+abbrev pub reinserted_item : ℕ → ℕ → Document → Document → Document
+reinserted_item capacity i e (list ds) = list (reinserted_items capacity i e ds)
+reinserted_item capacity i e d = d
 
--- the object with v under a name that it lacks, if `capacity` has space for one more; otherwise
+-- the object with v under a name that it lacks, if one more fits into `capacity`; otherwise
 -- unchanged
-abbrev pub rejoined : ℕ → Token → Document → Document → Document
-rejoined capacity name v (object ms) =
+abbrev pub reinserted_member : ℕ → Token → Document → Document → Document
+reinserted_member capacity name v (object ms) =
     object (if nat_lt (members_length ms) capacity then add_member ms name v else ms)
-rejoined capacity name v d = d
+reinserted_member capacity name v d = d
 
 -- the elements with the one at index i removed and inserted at index j of the others; unchanged if
 -- either index is past the end
@@ -81,35 +81,35 @@ abbrev pub with_part : (Document → Document) → Path → Option Document → 
 with_part change path (Some c) d = put d path (change c)
 with_part change path None d = d
 
--- the document with a value at an empty place
-abbrev pub reseated : Seat → Document → Document → Document
-reseated (seat.Item path i e spare) v d =
-    with_part (refilled (vec_capacity spare) i v) path (at d path) d
-reseated (seat.Member path name spare) v d =
-    with_part (rejoined spare.capacity (string_bytes name) v) path (at d path) d
+-- the document with a removed value put back
+abbrev pub reinserted : Reinsertion → Document → Document → Document
+reinserted (reinsertion.Item path i e spare) v d =
+    with_part (reinserted_item (vec_capacity spare) i v) path (at d path) d
+reinserted (reinsertion.Member path name spare) v d =
+    with_part (reinserted_member spare.capacity (string_bytes name) v) path (at d path) d
 
 -- the value at a path, and the document with the part there that it replaced, or without it if it
 -- replaced none
-abbrev pub lifted : Option Document → Path → Document → Option (Document × Document)
-lifted (Some part) path d = option_map (λ v. (v, put d path part)) (at d path)
-lifted None path d =
+abbrev pub put_undone : Option Document → Path → Document → Option (Document × Document)
+put_undone (Some part) path d = option_map (λ v. (v, put d path part)) (at d path)
+put_undone None path d =
     option_and_then (λ e.
     option_map (λ v. (v, e)) (at d path)) (result_ok (at_path drop_child path d))
 
--- the document with the value that was lifted at the empty place
-abbrev pub moved_back : Seat → Option (Document × Document) → Document → Document
-moved_back place (Some p) d = reseated place p.0 p.1
-moved_back place None d = d
+-- the document in which the value that was taken from its new place is put back
+abbrev pub transfer_undone : Reinsertion → Option (Document × Document) → Document → Document
+transfer_undone r (Some p) d = reinserted r p.0 p.1
+transfer_undone r None d = d
 
--- the document before the change of which this is the record
+-- the document before the change that the record takes back
 abbrev pub undone : Undo → Document → Document
 undone (undo.Part path part) d = put d path part
 undone (undo.Inserted path) d = or_same (at_path drop_child path d) d
-undone (undo.Removed gone) d = reseated gone.seat gone.value d
-undone (undo.Moved place path part) d = moved_back place (lifted part path d) d
+undone (undo.Removed gone) d = reinserted gone.reinsertion gone.value d
+undone (undo.Transferred r path part) d = transfer_undone r (put_undone part path d) d
 undone (undo.Slid path i j) d = with_part (slid i j) path (at d path) d
 
--- the document before the changes of which these are the records: the last one is taken back first
+-- the document before the changes that the records take back, of which the last goes first
 abbrev pub taken_back : Document → List Undo → Document
 taken_back d [] = d
 taken_back d (k ∷ kept) = undone k (taken_back d kept)

@@ -3,7 +3,7 @@
 ghost use Rattle.std.specs.Prelude.{◌≡◌, ◌≢◌, ◌<◌, ◌≤◌, ◌-◌, ◌^◌, Ok, Err, IfOk, IfErr};
 ghost use Rattle.relay_pointer.specs.Path.{path_of};
 ghost use Rattle.relay_patch.specs.Place.{place_of};
-ghost use Rattle.relay_apply.specs.Steps.{insertion_index, landing_in, landing, standing_in, standing};
+ghost use Rattle.relay_apply.specs.Steps.{insertion_index, resolve_insert_in, resolve_insert, resolve_existing_in, resolve_existing};
 ghost use Rattle.relay_patch.specs.declared.fault.Cause.TheVariants.{NoMemory};
 
 use crate::walk::{is_dash, step, walk};
@@ -24,7 +24,7 @@ pub(crate) enum InsertTarget {
 
 /// Returns where an insertion at the path goes, or why it is refused.
 pub(crate) fn resolve_insert(tree: &Tree, path: &[String]) -> Result<InsertTarget, Cause>
-    ensures insert_target { result ≡ landing tree.now (path_of path.now) }
+    ensures insert_target { result ≡ resolve_insert tree.now (path_of path.now) }
     ensures other { IfErr result (λ cause. cause ≢ NoMemory) }
 {
     let [before @ .., last] = path else {
@@ -37,7 +37,7 @@ pub(crate) fn resolve_insert(tree: &Tree, path: &[String]) -> Result<InsertTarge
 }
 
 pub(crate) fn resolve_insert_in(container: &Tree, token: &str) -> Result<InsertTarget, Cause>
-    ensures insert_target { result ≡ landing_in container.now token.now }
+    ensures insert_target { result ≡ resolve_insert_in container.now token.now }
     ensures other { IfErr result (λ cause. cause ≢ NoMemory) }
 {
     match &container.node {
@@ -72,20 +72,20 @@ pub(crate) fn insertion_index(length: usize, token: &str) -> Result<usize, Cause
 /// Returns whether the part at the path is an element of a list. The root is refused with
 /// `Cause::Root`.
 pub(crate) fn resolve_existing(tree: &Tree, path: &[String]) -> Result<bool, Cause>
-    ensures item { result ≡ standing tree.now (path_of path.now) }
+    ensures item { result ≡ resolve_existing tree.now (path_of path.now) }
     ensures other { IfErr result (λ cause. cause ≢ NoMemory) }
 {
     let [before @ .., last] = path else {
         return Err(Cause::Root);
     };
     match walk(tree, before) {
-        Ok(container) => stand_in(container, last.as_str()),
+        Ok(container) => resolve_existing_in(container, last.as_str()),
         Err(cause) => Err(cause),
     }
 }
 
-fn stand_in(container: &Tree, token: &str) -> Result<bool, Cause>
-    ensures item { result ≡ standing_in container.now token.now }
+fn resolve_existing_in(container: &Tree, token: &str) -> Result<bool, Cause>
+    ensures item { result ≡ resolve_existing_in container.now token.now }
     ensures other { IfErr result (λ cause. cause ≢ NoMemory) }
 {
     match step(container, token) {

@@ -6,16 +6,16 @@
 #![tactic(auto)]
 
 mod applying;
+mod change_of;
 mod container;
 mod exchange;
+mod insert_place;
 mod insert_target;
 mod keeping;
 mod making;
 mod measuring;
 mod moving;
-mod place;
-mod recording;
-mod seat;
+mod reinsertion;
 mod sliding;
 mod steps;
 mod undo;

@@ -15,15 +15,15 @@ use relay_pointer::{child_mut, resolve};
 use relay_tree::Tree;
 use std::alloc::{AllocError, AllocFailed, Global};
 
-/// Makes a change that carries nothing, and returns the value that it removed or replaced. If
-/// memory runs out, the tree is unchanged.
+/// Makes a change that is no transfer, and returns the value that it removed or replaced. If memory
+/// runs out, the tree is unchanged.
 pub(crate) fn make(
     alloc: Global,
     tree: &mut Tree,
     change: &Change,
 ) -> Result<Option<Tree>, AllocError>
     requires makes { (next : Document) × Makes tree.old change.now next }
-    requires stays { carries change.now ≡ false }
+    requires in_place { carries change.now ≡ false }
     ensures made { OnOk result (Makes tree.old change.now tree.new) }
     ensures went { IfOk result (λ went. went ≡ gone tree.old change.now) }
     ensures err { OnErr result (tree.new ≡ tree.old) }

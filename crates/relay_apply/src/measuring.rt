@@ -60,7 +60,7 @@ pub(crate) fn weight_after(
     judge(known, change, went, bounds)
 }
 
-/// Returns the value that a change that carries nothing removes or replaces.
+/// Returns the value that a change removes or replaces, if it is no transfer.
 pub(crate) fn gone<'t>(tree: &'t Tree, change: &Change) -> Option<&'t Tree>
     ensures { carries change.now ≡ false → option_copied result ≡ gone tree.now change.now }
 {

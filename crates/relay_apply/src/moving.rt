@@ -6,7 +6,7 @@ ghost use Rattle.relay_pointer.specs.Path.{path_of, is_proper_prefix, same_path}
 ghost use Rattle.relay_patch.specs.Walk.{step, walk};
 ghost use Rattle.relay_patch.specs.Place.{place_of};
 ghost use Rattle.relay_patch.specs.Patch.{at_path, drop_child};
-ghost use Rattle.relay_apply.specs.Steps.{landing_in, landing, shifted, is_end, ends, is_same_end};
+ghost use Rattle.relay_apply.specs.Steps.{resolve_insert_in, resolve_insert, shifted, is_end, ends, is_same_end};
 ghost use Rattle.relay_patch.specs.declared.fault.Cause.TheVariants.{NoMemory};
 
 use crate::insert_target::{InsertTarget, insertion_index, resolve_insert, resolve_insert_in};
@@ -24,7 +24,7 @@ pub(crate) fn resolve_insert_without(
     requires outside { is_proper_prefix (path_of from.now) (path_of path.now) ≡ false }
     requires elsewhere { same_path (path_of from.now) (path_of path.now) ≡ false }
     ensures insert_target { (rest : Document) → at_path drop_child (path_of from.now) tree.now
-        ≡ Ok rest → result ≡ landing rest (path_of path.now) }
+        ≡ Ok rest → result ≡ resolve_insert rest (path_of path.now) }
     ensures other { IfErr result (λ cause. cause ≢ NoMemory) }
 {
     let [gone, deeper @ ..] = from else {
@@ -62,7 +62,7 @@ pub(crate) fn resolve_insert_without(
 fn resolve_insert_beside(container: &Tree, gone: &str, token: &str) -> Result<InsertTarget, Cause>
     requires { bytes_eq gone.now token.now ≡ false }
     ensures insert_target { (rest : Document) → drop_child gone.now container.now ≡ Ok rest
-        → result ≡ landing_in rest token.now }
+        → result ≡ resolve_insert_in rest token.now }
     ensures other { IfErr result (λ cause. cause ≢ NoMemory) }
 {
     match container.node.list_len() {

@@ -9,9 +9,9 @@ ghost use Rattle.relay_pointer.specs.Index.{index_of};
 ghost use Rattle.relay_pointer.specs.Path.{path_of, at};
 ghost use Rattle.relay_patch.specs.Place.{front, last_of, beside, in_one_list};
 ghost use Rattle.relay_patch.specs.Change.{Moves};
-ghost use Rattle.relay_apply.specs.Undo.{slid_items, slid, with_part, undone, went};
+ghost use Rattle.relay_apply.specs.Undo.{slid_items, slid, with_part, undone, removed_part};
 
-use crate::seat::position;
+use crate::reinsertion::index_or_zero;
 use crate::undo::Undo;
 use relay_patch::Place;
 use relay_pointer::{Pointer, resolve_mut, same_path};
@@ -54,7 +54,7 @@ pub(crate) fn slide(
     ensures made { OnOk result ((v next : Document) → Moves tree.old from.now to.now v next
         → tree.new ≡ next) }
     ensures back { IfOk result (λ kept. undone kept tree.new ≡ tree.old) }
-    ensures went { IfOk result (λ kept. went kept ≡ None) }
+    ensures went { IfOk result (λ kept. removed_part kept ≡ None) }
     ensures err { OnErr result (tree.new ≡ tree.old) }
 {
     let list = container_of(alloc, from.path.tokens())?;
@@ -83,7 +83,7 @@ fn index_at(path: &[String]) -> usize
     ensures { (i : ℕ) → index_of (last_of (path_of path.now)) ≡ Some i → i < 2 ^ 64 → result ≡ i }
 {
     match path {
-        [.., last] => position(last.as_str()),
+        [.., last] => index_or_zero(last.as_str()),
         [] => 0,
     }
 }
@@ -129,10 +129,10 @@ fn slide_near(items: &mut Vec<Element>, from: usize, to: usize)
     requires to_in_bounds { to < vec_len items.old }
     ensures { items_of items.new.items ≡ slid_items from to (items_of items.old.items) }
 {
-    for place in from..to {
-        items.swap(place, place + 1);
+    for index in from..to {
+        items.swap(index, index + 1);
     }
-    for place in (to..from).rev() {
-        items.swap(place, place + 1);
+    for index in (to..from).rev() {
+        items.swap(index, index + 1);
     }
 }

@@ -14,12 +14,12 @@ ghost use Rattle.relay_patch.specs.Weight.{change_weight, changes_weight};
 ghost use Rattle.relay_patch.specs.declared.fault.Cause.TheVariants.{NoMemory, TooHeavy};
 ghost use Rattle.relay_patch.specs.declared.op.Op.TheVariants as op;
 
+use crate::change_of::change_of;
 use crate::insert_target::resolve_insert;
-use crate::keeping::{carried, land, make_keeping, make_with_undo};
+use crate::keeping::{as_transfer, finish_transfer, make_keeping, make_with_undo};
 use crate::making::make;
 use crate::measuring::{displaced, gone, measure, weight_after};
-use crate::recording::record;
-use crate::seat::{reseat, vacate};
+use crate::reinsertion::{reinsert, remove_with_undo};
 use crate::undo::Undo;
 use crate::walk::walk;
 use relay_patch::{Bounds, Cause, Change, Op};
@@ -71,7 +71,7 @@ pub(crate) fn perform(
     if let Some(cause) = too_heavy(tree, op, done.left) {
         return Err(cause);
     }
-    let change = record(alloc, tree, op)?;
+    let change = change_of(alloc, tree, op)?;
     advance(alloc, tree, kept, done, change, bounds, following)
 }
 
@@ -154,7 +154,7 @@ fn advance(
         ≡ taken_back tree.old kept.old.items) }
 {
     match change {
-        Some(change) => amend(alloc, tree, kept, done, change, bounds, following),
+        Some(change) => make_paid(alloc, tree, kept, done, change, bounds, following),
         None => stay(tree, done, bounds),
     }
 }
@@ -177,7 +177,7 @@ fn stay(tree: &Tree, done: Done, bounds: Bounds) -> Result<Done, Cause>
 
 // Makes a change within the bounds. It is paid for before it is made.
 #[tactic(auto, using(crate::proofs::Spent::paid_more, crate::proofs::Spent::paid_afforded, crate::proofs::Spent::too_heavy))]
-fn amend(
+fn make_paid(
     alloc: Global,
     tree: &mut Tree,
     kept: &mut Vec<Undo>,
@@ -206,10 +206,10 @@ fn amend(
     ensures refused_back { OnErr result (taken_back tree.new kept.new.items
         ≡ taken_back tree.old kept.old.items) }
 {
-    let place = done.changes.len();
+    let index = done.changes.len();
     let mut next = pay_for(done, change)?;
-    let change = &next.changes[place];
-    match alter(alloc, tree, kept, next.weight, change, bounds, following) {
+    let change = &next.changes[index];
+    match make_weighed(alloc, tree, kept, next.weight, change, bounds, following) {
         Ok(weight) => next.weight = Some(weight),
         Err(cause) => return Err(cause),
     }
@@ -252,7 +252,7 @@ fn weigh(tree: &Tree, known: Option<u64>, bounds: Bounds) -> Result<u64, Cause>
 }
 
 // Makes a change and returns the weight after it.
-fn alter(
+fn make_weighed(
     alloc: Global,
     tree: &mut Tree,
     kept: &mut Vec<Undo>,
@@ -273,17 +273,17 @@ fn alter(
         ≡ taken_back tree.old kept.old.items) }
 {
     match weigh(tree, known, bounds) {
-        Ok(weight) if following == 0 && carried(change).is_none() => {
-            alter_last(alloc, tree, weight, change, bounds)
+        Ok(weight) if following == 0 && as_transfer(change).is_none() => {
+            make_last(alloc, tree, weight, change, bounds)
         }
-        Ok(weight) => alter_keeping(alloc, tree, kept, weight, change, bounds),
-        Err(_) => alter_unjudged(alloc, tree, kept, change, bounds),
+        Ok(weight) => make_judged(alloc, tree, kept, weight, change, bounds),
+        Err(_) => make_unjudged(alloc, tree, kept, change, bounds),
     }
 }
 
 // Makes the last change of a patch, to a document of this weight. It is judged before it is made,
 // so nothing has to be kept.
-fn alter_last(
+fn make_last(
     alloc: Global,
     tree: &mut Tree,
     weight: u64,
@@ -291,7 +291,7 @@ fn alter_last(
     bounds: Bounds,
 ) -> Result<u64, Cause>
     requires makes { (next : Document) × Makes tree.old change.now next }
-    requires stays { carries change.now ≡ false }
+    requires in_place { carries change.now ≡ false }
     requires known { Known bounds tree.old (Some weight) }
     ensures known { IfOk result (λ n. Known bounds tree.new (Some n)) }
     ensures made { OnOk result (Makes tree.old change.now tree.new) }
@@ -304,9 +304,9 @@ fn alter_last(
     Ok(weight)
 }
 
-// Makes a change to a document of this weight and keeps what takes it back. A carried value is
-// removed before the change is judged.
-fn alter_keeping(
+// Makes a change to a document of this weight and keeps what takes it back. A transfer is judged
+// once its value is removed.
+fn make_judged(
     alloc: Global,
     tree: &mut Tree,
     kept: &mut Vec<Undo>,
@@ -322,24 +322,24 @@ fn alter_keeping(
         → (next : Document) × Makes tree.old change.now next × (within bounds next ≡ Err cause)) }
     ensures back { taken_back tree.new kept.new.items ≡ taken_back tree.old kept.old.items }
 {
-    let Some((from, to)) = carried(change) else {
-        return alter_in_place(alloc, tree, kept, weight, change, bounds);
+    let Some((from, to)) = as_transfer(change) else {
+        return make_in_place(alloc, tree, kept, weight, change, bounds);
     };
-    let vacated = vacate(alloc, tree, from)?;
+    let removed = remove_with_undo(alloc, tree, from)?;
     let next = match weight_after(weight, change, displaced(tree, to), bounds) {
         Ok(next) => next,
         Err(cause) => {
-            reseat(tree, vacated.seat, vacated.value);
+            reinsert(tree, removed.reinsertion, removed.value);
             return Err(cause);
         }
     };
-    land(alloc, tree, kept, to, vacated)?;
+    finish_transfer(alloc, tree, kept, to, removed)?;
     Ok(next)
 }
 
-// The same for a change that carries nothing. It is made before it is judged, by what went, so its
-// path is walked once.
-fn alter_in_place(
+// The same for a change that is no transfer. It is made first, and then judged by the part that it
+// removed, so its path is walked once.
+fn make_in_place(
     alloc: Global,
     tree: &mut Tree,
     kept: &mut Vec<Undo>,
@@ -348,7 +348,7 @@ fn alter_in_place(
     bounds: Bounds,
 ) -> Result<u64, Cause>
     requires makes { (next : Document) × Makes tree.old change.now next }
-    requires stays { carries change.now ≡ false }
+    requires in_place { carries change.now ≡ false }
     requires known { Known bounds tree.old (Some weight) }
     ensures known { IfOk result (λ n. Known bounds tree.new (Some n)) }
     ensures made { OnOk result (Makes tree.old change.now tree.new) }
@@ -365,7 +365,7 @@ fn alter_in_place(
 
 // Makes a change to a document that is not within the bounds, keeps what takes it back, and
 // measures the result.
-fn alter_unjudged(
+fn make_unjudged(
     alloc: Global,
     tree: &mut Tree,
     kept: &mut Vec<Undo>,

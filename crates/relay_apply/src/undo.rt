@@ -2,11 +2,11 @@
 ghost use Rattle.std.specs.Prelude.{◌≡◌, None, option_map, option_copied, IfNone};
 ghost use Rattle.relay_pointer.specs.Path.{path_of, put};
 ghost use Rattle.relay_patch.specs.Patch.{at_path, drop_child};
-ghost use Rattle.relay_apply.specs.Undo.{brought, went, or_same, lifted, moved_back, undone, taken_back};
+ghost use Rattle.relay_apply.specs.Undo.{undo_of_put, removed_part, or_same, put_undone, transfer_undone, undone, taken_back};
 
 use crate::insert_target::resolve_existing;
 use crate::making::remove_at;
-use crate::seat::{Seat, Vacated, reseat};
+use crate::reinsertion::{Reinsertion, RemovedValue, reinsert};
 use crate::sliding::slide_at;
 use relay_pointer::{Pointer, exchange};
 use relay_tree::Tree;
@@ -24,11 +24,10 @@ pub enum Undo {
         path: Pointer,
     },
     /// A value was removed.
-    Removed(Vacated),
-    /// A value was moved from a place, which is empty now, to a path, where it replaced this part,
-    /// if any.
-    Moved {
-        seat: Seat,
+    Removed(RemovedValue),
+    /// A value was removed, and put at the path `to`, where it replaced this part, if any.
+    Transferred {
+        reinsertion: Reinsertion,
         to: Pointer,
         part: Option<Tree>,
     },
@@ -43,20 +42,20 @@ pub enum Undo {
 impl Undo {
     /// The part that the change removed or replaced, if any.
     pub(crate) fn part(&self) -> Option<&Tree>
-        ensures { option_copied result ≡ went self.now }
+        ensures { option_copied result ≡ removed_part self.now }
     {
         match self {
             Undo::Part { part, .. } => Some(part),
-            Undo::Removed(vacated) => Some(&vacated.value),
-            Undo::Moved { part, .. } => part.as_ref(),
+            Undo::Removed(removed) => Some(&removed.value),
+            Undo::Transferred { part, .. } => part.as_ref(),
             Undo::Inserted { .. } | Undo::Slid { .. } => None,
         }
     }
 }
 
 /// Returns the record of a value that was put at the path, given the part that it replaced, if any.
-pub(crate) fn brought(path: Pointer, part: Option<Tree>) -> Undo
-    ensures { result ≡ brought path part }
+pub(crate) fn undo_of_put(path: Pointer, part: Option<Tree>) -> Undo
+    ensures { result ≡ undo_of_put path part }
 {
     match part {
         Some(part) => Undo::Part { path, part },
@@ -79,9 +78,13 @@ fn undo_one(tree: &mut Tree, kept: Undo)
 {
     match kept {
         Undo::Part { path, part } => put_back(tree, &path, part),
-        Undo::Inserted { path } => drop_again(tree, path.tokens()),
-        Undo::Removed(Vacated { seat, value }) => reseat(tree, seat, value),
-        Undo::Moved { seat, to, part } => move_back(tree, seat, &to, part),
+        Undo::Inserted { path } => drop_inserted(tree, path.tokens()),
+        Undo::Removed(RemovedValue { reinsertion, value }) => reinsert(tree, reinsertion, value),
+        Undo::Transferred {
+            reinsertion,
+            to,
+            part,
+        } => undo_transfer(tree, reinsertion, &to, part),
         Undo::Slid { list, from, to } => slide_at(tree, &list, from, to),
     }
 }
@@ -92,36 +95,36 @@ fn put_back(tree: &mut Tree, path: &Pointer, part: Tree)
     drop(exchange(tree, path, part));
 }
 
-fn drop_again(tree: &mut Tree, path: &[String])
+fn drop_inserted(tree: &mut Tree, path: &[String])
     ensures { tree.new ≡ or_same (at_path drop_child (path_of path.now) tree.old) tree.old }
 {
-    drop(lift_inserted(tree, path));
+    drop(remove_inserted(tree, path));
 }
 
-// Moves the value at the path back to its old place.
-fn move_back(tree: &mut Tree, seat: Seat, path: &Pointer, part: Option<Tree>)
-    ensures { tree.new ≡ moved_back seat (lifted part path.now tree.old) tree.old }
+// Moves the value at the path back to its old place. If it replaced a part, that is put back too.
+fn undo_transfer(tree: &mut Tree, reinsertion: Reinsertion, path: &Pointer, part: Option<Tree>)
+    ensures { tree.new ≡ transfer_undone reinsertion (put_undone part path.now tree.old) tree.old }
 {
-    if let Some(value) = lift(tree, path, part) {
-        reseat(tree, seat, value);
+    if let Some(value) = undo_put(tree, path, part) {
+        reinsert(tree, reinsertion, value);
     }
 }
 
-// Takes the value away from the path and puts the part there that it replaced, if any.
-fn lift(tree: &mut Tree, path: &Pointer, part: Option<Tree>) -> Option<Tree>
-    ensures lifted { option_map (λ value. (value, tree.new)) result
-        ≡ lifted part path.now tree.old }
+// Removes the value at the path and returns it. If it replaced a part, that is put back.
+fn undo_put(tree: &mut Tree, path: &Pointer, part: Option<Tree>) -> Option<Tree>
+    ensures undone { option_map (λ value. (value, tree.new)) result
+        ≡ put_undone part path.now tree.old }
     ensures none { IfNone result (tree.new ≡ tree.old) }
 {
     match part {
         Some(part) => exchange(tree, path, part),
-        None => lift_inserted(tree, path.tokens()),
+        None => remove_inserted(tree, path.tokens()),
     }
 }
 
-fn lift_inserted(tree: &mut Tree, path: &[String]) -> Option<Tree>
-    ensures lifted { option_map (λ value. (value, tree.new)) result
-        ≡ lifted None (path_of path.now) tree.old }
+fn remove_inserted(tree: &mut Tree, path: &[String]) -> Option<Tree>
+    ensures undone { option_map (λ value. (value, tree.new)) result
+        ≡ put_undone None (path_of path.now) tree.old }
     ensures rest { tree.new ≡ or_same (at_path drop_child (path_of path.now) tree.old) tree.old }
     ensures none { IfNone result (tree.new ≡ tree.old) }
 {

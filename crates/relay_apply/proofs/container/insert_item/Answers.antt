@@ -3,7 +3,7 @@ use Rattle.relay_tree.specs.Document.{items_of}
 use Rattle.relay_tree.specs.Part.{items_length}
 use Rattle.relay_tree.proofs.Elements.{items_length-items_of}
 use Rattle.relay_apply.proofs.Contained.{inserts}
-use Rattle.relay_apply.proofs.Landed.{list_refuses}
+use Rattle.relay_apply.proofs.Targets.{list_refuses}
 use Rattle.relay_apply.proofs.container.insert_item.Goals as goal
 use Rattle.relay_tree.proofs.Outcomes.{on_ok, refused_not_ok}
 

@@ -1,6 +1,6 @@
 use Rattle.std.proofs.Common.{sym}
 use Rattle.relay_tree.specs.Document.{items_of}
-use Rattle.relay_apply.proofs.Spots.{item_there, no_item_there, no_place}
+use Rattle.relay_apply.proofs.Resolved.{item_there, no_item_there, no_place}
 use Rattle.relay_apply.proofs.insert_target.is_item_at.Goals as goal
 
 pub returns-in-List : goal.returns-in-List

@@ -3,7 +3,7 @@ use Rattle.relay_tree.specs.Document.{items_of}
 use Rattle.relay_tree.specs.Part.{items_length}
 use Rattle.relay_tree.proofs.Elements.{items_length-items_of}
 use Rattle.relay_tree.specs.Seen.{members_of}
-use Rattle.relay_apply.proofs.Spots.{lands_in_object}
+use Rattle.relay_apply.proofs.Resolved.{resolve_insert_in-object}
 use Rattle.relay_apply.proofs.insert_target.resolve_insert_in.Goals as goal
 
 pub returns-in-Ok-clause-insert_target : goal.returns-in-Ok-clause-insert_target
@@ -24,6 +24,6 @@ returns-in-Err-clause-insert_target c =
 
 pub returns-in-Members-clause-insert_target : goal.returns-in-Members-clause-insert_target
 returns-in-Members-clause-insert_target c =
-    lands_in_object c.member.result c.is_some.result c.args.container.now
+    resolve_insert_in-object c.member.result c.is_some.result c.args.container.now
     (members_of c.in-Members.field-0.entries) c.args.token.now
     (rw c.in-Members.is at c.container.view_is) c.member.ensures c.is_some.ensures

@@ -54,7 +54,8 @@ returns-in-DropItem-clause-made c =
     c.requires.makes (rw c.tokens-in-DropItem.ensures at c.remove_at-in-DropItem.ensures.rest)
 
 pub slide-requires-clause-list : goal.slide-requires-clause-list
-slide-requires-clause-list c = stays_in_list c.args.change.now _ _ _ c.in-Move.is c.requires.stays
+slide-requires-clause-list c =
+    stays_in_list c.args.change.now _ _ _ c.in-Move.is c.requires.in_place
 
 pub slide-requires-clause-moves : goal.slide-requires-clause-moves
 slide-requires-clause-moves c =
@@ -73,7 +74,7 @@ returns-in_ok-slide-in-Move-clause-made c =
 pub returns-in_ok-slide-in-Move-clause-went : goal.returns-in_ok-slide-in-Move-clause-went
 returns-in_ok-slide-in-Move-clause-went c =
     slid_gone c.args.change.now c.args.tree.now c.in-Move.from c.in-Move.to c.in-Move.value
-    c.in-Move.is c.requires.stays
+    c.in-Move.is c.requires.in_place
 
 pub returns-in_ok-put-in-Copy-clause-made : goal.returns-in_ok-put-in-Copy-clause-made
 returns-in_ok-put-in-Copy-clause-made c =

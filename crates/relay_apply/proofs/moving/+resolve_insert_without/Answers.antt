@@ -1,7 +1,7 @@
 use Rattle.std.proofs.Common.{◌∷◌, string_bytes, sym, ap, ◌∙◌}
 use Rattle.relay_tree.proofs.Names.{equal_bytes}
 use Rattle.relay_pointer.specs.Path.{path_of}
-use Rattle.relay_apply.proofs.Landings.{path_ends, from_ends, from_ends_refused, both_go_on, paths_part, path_breaks}
+use Rattle.relay_apply.proofs.InsertWithout.{path_ends, from_ends, from_ends_refused, both_go_on, paths_part, path_breaks}
 use Rattle.relay_apply.proofs.moving.+resolve_insert_without.Goals as goal
 use Rattle.relay_pointer.proofs.Tokens.{tokens_front, no_tokens, some_tokens}
 

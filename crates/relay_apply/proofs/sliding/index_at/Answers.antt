@@ -16,4 +16,4 @@ returns-in-len1-up c =
     let is = tokens_back path c.last-item.result c.in-len1-up.len_at_least c.last-item.is in
     let last = c.as_str.ensures.value
     ∙ sym (ap last_of is ∙ last_of-append (path_of (take (length path - 1) path)) _) in
-    λ i named few. c.position.ensures i (ap index_of last ∙ named) few
+    λ i named few. c.index_or_zero.ensures i (ap index_of last ∙ named) few

@@ -1,4 +1,4 @@
--- The value and its path are too heavy together, wherever it would land.
+-- The value and its path are too heavy together, wherever the path leads.
 use Rattle.std.proofs.Common.{sym}
 use Rattle.relay_apply.proofs.Overspent.{added_here, added_nowhere}
 use Rattle.relay_apply.proofs.steps.heavy_insertion.Goals as goal
