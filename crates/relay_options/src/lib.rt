@@ -3,9 +3,13 @@
 //! `clap`.
 #![tactic(auto)]
 
+mod commands;
+mod hub_options;
 mod job;
 mod reading;
+mod server_options;
 mod settings;
+mod values;
 
 pub use job::{Job, Stop};
 pub use reading::job_of;

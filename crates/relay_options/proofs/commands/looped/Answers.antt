@@ -2,7 +2,7 @@ use Rattle.std.proofs.Common.{◌∙◌, ◌≡◌, ap, codes, rules}
 use Rattle.std.proofs.lemmas.Result.{IfOk-weaker}
 use Rattle.clap.specs.Words.{app_of, new_app}
 use Rattle.relay_options.specs.CommandLine.{with_script_options}
-use Rattle.relay_options.proofs.reading.looped.Goals as goal
+use Rattle.relay_options.proofs.commands.looped.Goals as goal
 
 pub returns : goal.returns
 returns c =

@@ -1,5 +1,5 @@
 use Rattle.std.proofs.Common.{refl}
-use Rattle.relay_options.proofs.reading.serve_of.Goals as goal
+use Rattle.relay_options.proofs.server_options.serve_of.Goals as goal
 
 pub returns-clause-asked : goal.returns-clause-asked
 returns-clause-asked c = (

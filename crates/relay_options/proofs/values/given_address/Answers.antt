@@ -1,5 +1,5 @@
 use Rattle.relay_options.proofs.AddressesRead.{address_read}
-use Rattle.relay_options.proofs.reading.given_address.Goals as goal
+use Rattle.relay_options.proofs.values.given_address.Goals as goal
 
 pub returns : goal.returns
 returns c =

@@ -1,6 +1,6 @@
 use Rattle.std.proofs.Common.{refl}
 use Rattle.relay_options.proofs.CommandsMade.{command_added}
-use Rattle.relay_options.proofs.reading.relay.Goals as goal
+use Rattle.relay_options.proofs.commands.relay.Goals as goal
 
 pub returns : goal.returns
 returns c =

@@ -1,7 +1,7 @@
 use Rattle.std.proofs.Common.{◌∙◌}
 use Rattle.clap.proofs.WalkLemmas.{one_text-rows}
 use Rattle.clap.specs.Words.{found_of}
-use Rattle.relay_options.proofs.reading.is_set.Goals as goal
+use Rattle.relay_options.proofs.values.is_set.Goals as goal
 
 pub returns : goal.returns
 returns c =

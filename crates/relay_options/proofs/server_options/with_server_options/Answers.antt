@@ -3,7 +3,7 @@ use Rattle.clap.specs.Words.{Rule, Text, rule_of}
 use Rattle.relay_options.proofs.CommandsMade.{option_added}
 use Rattle.relay_options.specs.CommandLine.{history_weight_option, telling_weight_option}
 use Rattle.relay_options.specs.CommandLine.{view_weight_option, waiting_weight_option}
-use Rattle.relay_options.proofs.reading.with_server_options.Goals as goal
+use Rattle.relay_options.proofs.server_options.with_server_options.Goals as goal
 
 pub returns : goal.returns
 returns c =

@@ -1,6 +1,6 @@
 use Rattle.std.proofs.Common.{refl}
 use Rattle.relay_options.proofs.CommandsMade.{option_added}
-use Rattle.relay_options.proofs.reading.with_settings.Goals as goal
+use Rattle.relay_options.proofs.hub_options.with_settings.Goals as goal
 
 pub returns : goal.returns
 returns c =

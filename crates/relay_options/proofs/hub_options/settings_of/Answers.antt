@@ -1,4 +1,4 @@
-use Rattle.relay_options.proofs.reading.settings_of.Goals as goal
+use Rattle.relay_options.proofs.hub_options.settings_of.Goals as goal
 
 pub returns-clause-given : goal.returns-clause-given
 returns-clause-given c = record {

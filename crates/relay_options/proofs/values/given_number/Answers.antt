@@ -1,6 +1,6 @@
 use Rattle.std.specs.Str.Parse.{ExplainsUnsignedError, HasUnsignedDigitsIfOk, ParsesUnsigned}
 use Rattle.relay_options.proofs.NumbersRead.{number_read}
-use Rattle.relay_options.proofs.reading.given_number.Goals as goal
+use Rattle.relay_options.proofs.values.given_number.Goals as goal
 
 pub returns : goal.returns
 returns c =

@@ -1,0 +1,214 @@
+//! The options of `relay serve` besides those of its hub: what they accept, and the job that they
+//! ask for.
+ghost use Rattle.std.specs.Prelude.{[], ◌≡◌, IfOk, codes};
+ghost use Rattle.clap.specs.Words.{app_of, found_of, rows_of, rule_of};
+ghost use Rattle.relay_options.specs.CommandLine.{IsAddressIn, IsFlagIn, IsJobOf, admin_option};
+ghost use Rattle.relay_options.specs.CommandLine.{closed_option, epoch_option};
+ghost use Rattle.relay_options.specs.CommandLine.{forget_rooms_option, listen_option, log_option};
+ghost use Rattle.relay_options.specs.CommandLine.{number_in, output_option, port_option};
+ghost use Rattle.relay_options.specs.CommandLine.{turns_option, with_server_options};
+ghost use Rattle.relay_options.specs.Ranges.{CanBeOpened, IsAdmin, IsPossible};
+
+use crate::hub_options::{
+    epoch, history_weight, settings_of, telling_weight, view_weight, waiting_weight, with_settings,
+};
+use crate::job::{Job, Stop};
+use crate::settings::{MAX_OUTPUT_MIB, MAX_PORT, MAX_TURNS};
+use crate::values::{given_address, given_number, is_set, number, number_of};
+use clap::{Arg, ArgAction, ArgMatches, Command};
+use std::alloc::{AllocError, Global};
+use std::net::IpAddr;
+
+/// The default of `--listen`: clients on this machine alone.
+const LISTEN: &str = "127.0.0.1";
+
+const TURNS: &str = "1000000000000";
+
+const OUTPUT_MIB: &str = "256";
+
+/// The default of `--max-history-weight` for a server: the weight of a largest document.
+const HISTORY_WEIGHT: &str = "262144";
+
+/// The default of `--max-waiting-weight` for a server: a quarter of that.
+const WAITING_WEIGHT: &str = "65536";
+
+/// The default of `--max-telling-weight` for a server: the weight of four largest documents.
+const TELLING_WEIGHT: &str = "1048576";
+
+/// The default of `--max-view-weight` for a server: 16 slots of a thousand bytes.
+const VIEW_WEIGHT: &str = "16384";
+
+/// The command with the options of a server.
+pub(crate) fn with_server_options<'a>(
+    alloc: Global,
+    command: Command<'a>,
+) -> Result<Command<'a>, AllocError>
+    ensures { IfOk result (λ r. app_of r ≡ with_server_options (app_of command.entry)) }
+{
+    let command = with_settings(alloc, command)?
+        .arg(server_epoch(alloc))?
+        .arg(history_weight(alloc).default_value(HISTORY_WEIGHT))?
+        .arg(waiting_weight(alloc).default_value(WAITING_WEIGHT))?
+        .arg(telling_weight(alloc).default_value(TELLING_WEIGHT))?
+        .arg(view_weight(alloc).default_value(VIEW_WEIGHT))?
+        .arg(listen(alloc))?
+        .arg(port(alloc))?
+        .arg(admin(alloc))?
+        .arg(turns(alloc))?
+        .arg(log(alloc))?
+        .arg(forget_rooms(alloc))?
+        .arg(closed(alloc))?
+        .arg(output(alloc))?;
+    Ok(command)
+}
+
+fn server_epoch<'a>(alloc: Global) -> Arg<'a>
+    ensures { rule_of result ≡ epoch_option [] }
+{
+    epoch(alloc).help(
+        "Which run of the relay this is, 0 to 9007199254740991; without it, the seconds since 1970",
+    )
+}
+
+fn listen<'a>(alloc: Global) -> Arg<'a>
+    ensures { rule_of result ≡ listen_option }
+{
+    Arg::new(alloc, "listen")
+        .long("listen")
+        .value_name("ADDRESS")
+        .action(ArgAction::Set)
+        .help(
+            "The IPv4 or IPv6 address for clients; on another one than a loopback address, whoever reaches it can enter",
+        )
+        .default_value(LISTEN)
+}
+
+fn port<'a>(alloc: Global) -> Arg<'a>
+    ensures { rule_of result ≡ port_option }
+{
+    number(alloc, "port", 0, MAX_PORT)
+        .help("The port, 0 to 65535; 0 lets the system choose")
+        .required(true)
+}
+
+fn admin<'a>(alloc: Global) -> Arg<'a>
+    ensures { rule_of result ≡ admin_option }
+{
+    number(alloc, "admin", 1, MAX_PORT).help(
+        "The port for an operator on this machine, 1 to 65535: health, metrics, rooms, and the stop; none without it",
+    )
+}
+
+fn turns<'a>(alloc: Global) -> Arg<'a>
+    ensures { rule_of result ≡ turns_option }
+{
+    number(alloc, "turns", 1, MAX_TURNS)
+        .help("How many rounds to make, 1 to 1000000000000; a round sleeps while nothing happens")
+        .default_value(TURNS)
+}
+
+fn log<'a>(alloc: Global) -> Arg<'a>
+    ensures { rule_of result ≡ log_option }
+{
+    Arg::new(alloc, "log")
+        .long("log")
+        .help("Tells of each connection that is opened, refused or ended, a line on standard error")
+        .action(ArgAction::SetTrue)
+}
+
+fn forget_rooms<'a>(alloc: Global) -> Arg<'a>
+    ensures { rule_of result ≡ forget_rooms_option }
+{
+    Arg::new(alloc, "forget-rooms")
+        .long("forget-rooms")
+        .help(
+            "Forgets the room that has been empty for the longest time, with its document, when --rooms are taken and another is asked for",
+        )
+        .action(ArgAction::SetTrue)
+}
+
+fn closed<'a>(alloc: Global) -> Arg<'a>
+    ensures { rule_of result ≡ closed_option }
+{
+    Arg::new(alloc, "closed")
+        .long("closed")
+        .help(
+            "Answers clients 503 until an operator says POST /open at the port of --admin: time to put documents back",
+        )
+        .action(ArgAction::SetTrue)
+}
+
+fn output<'a>(alloc: Global) -> Arg<'a>
+    ensures { rule_of result ≡ output_option }
+{
+    number(alloc, "max-output-mib", 1, MAX_OUTPUT_MIB)
+        .help(
+            "How many MiB of output are held for all sessions together, 1 to 1048576; beyond, those that hold the most and take nothing are ended",
+        )
+        .default_value(OUTPUT_MIB)
+}
+
+/// The job of `relay serve`.
+pub(crate) fn serve_of(alloc: Global, given: &ArgMatches<'_>, now: Option<u64>) -> Result<Job, Stop>
+    ensures range { IfOk result IsPossible }
+    ensures asked { IfOk result (IsJobOf (codes "serve") (rows_of (found_of given.now)) now) }
+{
+    let port = number_of(alloc, given, "port", 0, MAX_PORT)? as u16;
+    let admin = admin_of(alloc, given, port)?;
+    Ok(Job::Serve {
+        listen: listen_of(alloc, given)?,
+        port,
+        admin,
+        turns: number_of(alloc, given, "turns", 1, MAX_TURNS)?,
+        log: is_set(given, "log"),
+        forget_rooms: is_set(given, "forget-rooms"),
+        closed: closed_of(alloc, given, admin)?,
+        output_mib: number_of(alloc, given, "max-output-mib", 1, MAX_OUTPUT_MIB)?,
+        settings: settings_of(alloc, given, now)?,
+    })
+}
+
+/// The address for clients.
+fn listen_of(alloc: Global, given: &ArgMatches<'_>) -> Result<IpAddr, Stop>
+    ensures { IfOk result (IsAddressIn (codes "listen") (rows_of (found_of given.now))) }
+{
+    match given_address(given, "listen") {
+        Some(address) => Ok(address),
+        None => Err(Stop::Misuse(String::from_str(
+            alloc,
+            "error: --listen takes an IPv4 or IPv6 address\n",
+        )?)),
+    }
+}
+
+/// The port of the operator, if one is given. It is refused if it is the port of the clients.
+fn admin_of(alloc: Global, given: &ArgMatches<'_>, port: u16) -> Result<Option<u16>, Stop>
+    ensures range { IfOk result (IsAdmin port) }
+    ensures given { IfOk result (λ admin. number_in (codes "admin") (rows_of (found_of given.now))
+        ≡ admin) }
+{
+    match given_number(given, "admin") {
+        None => Ok(None),
+        Some(admin) if 1 <= admin && admin <= MAX_PORT && admin != u64::from(port) => {
+            Ok(Some(admin as u16))
+        }
+        Some(_) => Err(Stop::Misuse(format!(in alloc;
+            "error: --admin takes a port from 1 to {MAX_PORT}, another one than --port\n"
+        )?)),
+    }
+}
+
+/// Whether the server begins closed. That is refused without an operator, who alone can open it.
+fn closed_of(alloc: Global, given: &ArgMatches<'_>, admin: Option<u16>) -> Result<bool, Stop>
+    ensures range { IfOk result (λ closed. CanBeOpened closed admin) }
+    ensures given { IfOk result (IsFlagIn (codes "closed") (rows_of (found_of given.now))) }
+{
+    let closed = is_set(given, "closed");
+    if closed && admin.is_none() {
+        return Err(Stop::Misuse(String::from_str(
+            alloc,
+            "error: --closed needs --admin: an operator opens the relay there\n",
+        )?));
+    }
+    Ok(closed)
+}

@@ -1,0 +1,64 @@
+//! How the value of an option is read: a number within a range, an address, or a flag.
+ghost use Rattle.std.specs.Prelude.{[], ◌≡◌, ◌≤◌, IfOk, IfSome, Some};
+ghost use Rattle.clap.specs.Words.{found_of, rows_of, rule_of};
+ghost use Rattle.relay_options.specs.CommandLine.{IsAddressIn, IsFlagIn, number_in, number_option};
+
+use crate::job::Stop;
+use clap::builder::ValueParser;
+use clap::{Arg, ArgAction, ArgMatches};
+use std::alloc::Global;
+use std::net::IpAddr;
+
+/// An option that takes a number from `least` to `most`.
+pub(crate) fn number<'a>(alloc: Global, name: &'a str, least: u64, most: u64) -> Arg<'a>
+    ensures { rule_of result ≡ number_option name.entry.now least most [] }
+{
+    Arg::new(alloc, name)
+        .long(name)
+        .value_name("N")
+        .action(ArgAction::Set)
+        .value_parser(ValueParser::unsigned(least, most))
+}
+
+/// The number of an option. `clap` already refuses a number that is out of range, with a message of
+/// its own. It is checked again, since the contract of `clap` says of a subcommand's options what
+/// they hold, and not that it is in range.
+pub(crate) fn number_of(
+    alloc: Global,
+    given: &ArgMatches<'_>,
+    name: &str,
+    least: u64,
+    most: u64,
+) -> Result<u64, Stop>
+    ensures range { IfOk result (λ number. (least ≤ number) × (number ≤ most)) }
+    ensures given { IfOk result (λ number. number_in name.now (rows_of (found_of given.now))
+        ≡ Some number) }
+{
+    match given_number(given, name) {
+        Some(number) if least <= number && number <= most => Ok(number),
+        Some(_) | None => Err(Stop::Misuse(format!(in alloc;
+            "error: --{name} takes a number from {least} to {most}\n"
+        )?)),
+    }
+}
+
+/// The number of an option, if it has one.
+pub(crate) fn given_number(given: &ArgMatches<'_>, name: &str) -> Option<u64>
+    ensures { number_in name.now (rows_of (found_of given.now)) ≡ result }
+{
+    given.get_one::<u64>(name)
+}
+
+/// The address of an option, if it has a text and the text writes one.
+pub(crate) fn given_address(given: &ArgMatches<'_>, name: &str) -> Option<IpAddr>
+    ensures { IfSome result (IsAddressIn name.now (rows_of (found_of given.now))) }
+{
+    given.get_one::<IpAddr>(name)
+}
+
+/// Whether the words name a flag.
+pub(crate) fn is_set(given: &ArgMatches<'_>, name: &str) -> bool
+    ensures { IsFlagIn name.now (rows_of (found_of given.now)) result }
+{
+    given.get_flag(name)
+}
