@@ -45,11 +45,11 @@ abbrev pub is_list : Document → Bool
 is_list (list ds) = true
 is_list _ = false
 
--- whether the part that a token names is an element
+-- whether the part that a token names is an element of a list
 abbrev pub resolve_existing_in : Document → Token → Result Bool Cause
 resolve_existing_in c t = then_do (step c t) (λ _. Ok (is_list c))
 
--- whether the part at a path is an element
+-- whether the part at a path is an element of a list
 abbrev pub resolve_existing : Document → Path → Result Bool Cause
 resolve_existing d [] = Err Root
 resolve_existing d (t ∷ path) =

@@ -1,14 +1,12 @@
 //! The change that an operation makes: first the operation's own checks, then the parts of the
 //! change. Nothing here changes a tree.
-ghost use Rattle.std.specs.Prelude.{◌≡◌, ◌≢◌, Ok, Err, IsOk, IfOk, IfErr, OnOk};
-ghost use Rattle.relay_patch.specs.Place.{place_of};
+ghost use Rattle.std.specs.Prelude.{◌≡◌, IsOk, IfOk, IfErr, OnOk};
 ghost use Rattle.relay_patch.specs.Patch.{effect};
 ghost use Rattle.relay_patch.specs.declared.op.Op.TheVariants.{Add, Remove, Replace, Move, Copy, Test};
 ghost use Rattle.relay_patch.specs.Change.{changes_of};
 ghost use Rattle.relay_patch.specs.Walk.{Refuses};
 ghost use Rattle.relay_apply.specs.Steps.{insert_place, insertion, listed, removal};
 ghost use Rattle.relay_patch.specs.declared.change.Change.TheVariants as change;
-ghost use Rattle.relay_patch.specs.declared.fault.Cause.TheVariants.{NoMemory};
 
 use crate::insert_place::insert_place;
 use crate::insert_target::{InsertTarget, is_item_at, resolve_existing, resolve_insert};

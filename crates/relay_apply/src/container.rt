@@ -95,7 +95,7 @@ fn drop_item(items: &mut Vec<Element>, token: &str) -> Tree
     element.into_tree()
 }
 
-// Gives back what is empty, once it is more than three quarters of the list's place.
+// Frees the unused capacity of a list once it is more than three quarters of all.
 fn trim(items: &mut Vec<Element>)
     ensures { items.new.items ≡ items.old.items }
 {

@@ -1,6 +1,5 @@
 //! The places of changes, with `-` replaced by the index that it names.
 ghost use Rattle.std.specs.Prelude.{◌≡◌, IfOk, if◌then◌else◌, string_bytes};
-ghost use Rattle.relay_pointer.specs.Path.{path_of};
 ghost use Rattle.relay_pointer.specs.Index.{index_text};
 ghost use Rattle.relay_patch.specs.Walk.{is_dash};
 ghost use Rattle.relay_apply.specs.Steps.{final, is_item, insert_place};

@@ -1,6 +1,6 @@
 //! The place on which an operation acts, found by its checks. Nothing here changes a tree or
 //! allocates.
-ghost use Rattle.std.specs.Prelude.{◌≡◌, ◌≢◌, ◌<◌, ◌≤◌, ◌-◌, ◌^◌, Ok, Err, IfOk, IfErr};
+ghost use Rattle.std.specs.Prelude.{◌≡◌, ◌≢◌, ◌<◌, ◌≤◌, ◌-◌, ◌^◌, IfOk, IfErr};
 ghost use Rattle.relay_pointer.specs.Path.{path_of};
 ghost use Rattle.relay_patch.specs.Place.{place_of};
 ghost use Rattle.relay_apply.specs.Steps.{insertion_index, resolve_insert_in, resolve_insert, resolve_existing_in, resolve_existing};

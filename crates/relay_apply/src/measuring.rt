@@ -2,9 +2,7 @@
 //! removed.
 ghost use Rattle.std.specs.Prelude.{◌≡◌, ◌≢◌, ◌<◌, ◌≤◌, ◌-◌, ◌+◌, ◌^◌, Some, Ok, Err, OnOk, IfOk, IfErr, IsOk, false, length, option_copied};
 ghost use Rattle.relay_tree.specs.Document.{Document, depth, weight, saturated};
-ghost use Rattle.relay_pointer.specs.Path.{path_of};
 ghost use Rattle.relay_patch.specs.Patch.{within, exceeds};
-ghost use Rattle.relay_patch.specs.Change.{Makes};
 ghost use Rattle.relay_patch.specs.Measure.{reach, displaced, gone, carries, Known, lost, gained, part_weight, name_weight, place_weight, new_name, judged, Became};
 ghost use Rattle.relay_patch.specs.declared.fault.Cause.TheVariants.{NoMemory};
 

@@ -1,6 +1,6 @@
 //! The checks of a move. They find the target before the value is removed, so that a refusal leaves
 //! nothing to put back.
-ghost use Rattle.std.specs.Prelude.{◌≡◌, ◌≢◌, ◌<◌, ◌^◌, Ok, Err, false, IsOk, IfOk, IfErr, bytes_eq, length, string_bytes};
+ghost use Rattle.std.specs.Prelude.{◌≡◌, ◌≢◌, Ok, Err, false, IfOk, IfErr, bytes_eq};
 ghost use Rattle.relay_tree.specs.Document.{Document};
 ghost use Rattle.relay_pointer.specs.Path.{path_of, is_proper_prefix, same_path};
 ghost use Rattle.relay_patch.specs.Walk.{step, walk};

@@ -75,9 +75,9 @@ pub(crate) fn perform(
     advance(alloc, tree, kept, done, change, bounds, following)
 }
 
-// Why an operation is refused whose value alone weighs more than its change may; `None` if it does
-// not. So no value is copied that is far too heavy. The value is walked only as far as the budget
-// pays for.
+// Returns why an operation is refused if its value alone weighs more than is left for its change.
+// This comes first, so that no value is copied that is far too heavy. The walk over the value ends
+// where nothing is left.
 fn too_heavy(tree: &Tree, op: &Op, left: Budget) -> Option<Cause>
     ensures refused { IfSome result (IsOverspent tree.now op.now left) }
     ensures other { IfSome result (λ cause. cause ≢ NoMemory) }
@@ -95,7 +95,8 @@ fn too_heavy(tree: &Tree, op: &Op, left: Budget) -> Option<Cause>
     }
 }
 
-// Why an insertion of a value is refused that what is left does not pay for.
+// Returns why an insertion is refused whose value is too heavy: what its own checks find, or else
+// `TooHeavy`.
 #[tactic(auto, using(crate::proofs::Overspent::added_here, crate::proofs::Overspent::added_nowhere))]
 fn heavy_insertion(tree: &Tree, path: &Pointer) -> Cause
     ensures refused { (v : Document) (left : Budget) → paid (weight v) left ≡ None
@@ -108,7 +109,7 @@ fn heavy_insertion(tree: &Tree, path: &Pointer) -> Cause
     }
 }
 
-// The same of a replacement.
+// Returns the same for a replacement.
 #[tactic(auto, using(crate::proofs::Overspent::replaced_here, crate::proofs::Overspent::replaced_nowhere))]
 fn heavy_replacement(tree: &Tree, path: &Pointer) -> Cause
     ensures refused { (v : Document) (left : Budget) → paid (weight v) left ≡ None

@@ -1,4 +1,4 @@
-//! Records of changes, by which they are taken back without allocating.
+//! Undo records: each takes a change back without allocating.
 ghost use Rattle.std.specs.Prelude.{◌≡◌, None, option_map, option_copied, IfNone};
 ghost use Rattle.relay_pointer.specs.Path.{path_of, put};
 ghost use Rattle.relay_patch.specs.Patch.{at_path, drop_child};
@@ -53,7 +53,7 @@ impl Undo {
     }
 }
 
-/// Returns the record of a value that was put at the path, given the part that it replaced, if any.
+/// Returns the record of a put: a value was put at the path, and replaced this part, if any.
 pub(crate) fn undo_of_put(path: Pointer, part: Option<Tree>) -> Undo
     ensures { result ≡ undo_of_put path part }
 {
