@@ -16,7 +16,7 @@ use Rattle.relay_options.specs.declared.job.Job.{Job}
 use Rattle.relay_options.specs.declared.job.Job.TheVariants.{Script, Loop, Follow, Serve}
 use Rattle.relay_options.specs.declared.settings.Settings.{Settings}
 use Rattle.relay_options.specs.declared.settings.TheConstants.{MAX_EPOCH, MAX_HISTORY, MAX_PORT}
-use Rattle.relay_options.specs.declared.settings.TheConstants.{MAX_ROOMS, MAX_SESSIONS, MAX_TURNS}
+use Rattle.relay_options.specs.declared.settings.TheConstants.{MAX_ROOMS, MAX_SESSIONS, MAX_ROUNDS}
 use Rattle.relay_options.specs.declared.settings.TheConstants.{MAX_OUTPUT_MIB, MAX_WAITING_PATCHES}
 use Rattle.relay_options.specs.declared.settings.TheConstants.{MAX_WEIGHT_LIMIT}
 
@@ -74,8 +74,8 @@ port_option = record (number_option (codes "port") 0 MAX_PORT []) { required = t
 abbrev pub admin_option : Rule
 admin_option = number_option (codes "admin") 1 MAX_PORT []
 
-abbrev pub turns_option : Rule
-turns_option = number_option (codes "turns") 1 MAX_TURNS (codes "1000000000000" ∷ [])
+abbrev pub rounds_option : Rule
+rounds_option = number_option (codes "turns") 1 MAX_ROUNDS (codes "1000000000000" ∷ [])
 
 abbrev pub output_option : Rule
 output_option = number_option (codes "max-output-mib") 1 MAX_OUTPUT_MIB (codes "256" ∷ [])
@@ -121,7 +121,7 @@ with_server_options command =
     (with_weights
     (codes "262144" ∷ []) (codes "65536" ∷ []) (codes "1048576" ∷ []) (codes "16384" ∷ [])
     (with_rule (with_settings command) (epoch_option [])))
-    listen_option) port_option) admin_option) turns_option) log_option) forget_rooms_option)
+    listen_option) port_option) admin_option) rounds_option) log_option) forget_rooms_option)
     closed_option) output_option
 
 abbrev pub served : Text → App
@@ -194,10 +194,10 @@ abbrev pub IsJobOf : Text → List Row → Option ℕ → Job → Type 0
 IsJobOf name rows now (Script settings) = (name ≡ codes "script") × AreSettingsOf rows None settings
 IsJobOf name rows now (Loop settings) = (name ≡ codes "loop") × AreSettingsOf rows None settings
 IsJobOf name rows now Follow = name ≡ codes "follow"
-IsJobOf name rows now (Serve listen port admin turns log forget_rooms closed output_mib settings) =
+IsJobOf name rows now (Serve listen port admin rounds log forget_rooms closed output_mib settings) =
     (name ≡ codes "serve") × IsAddressIn (codes "listen") rows listen
     × (number_in (codes "port") rows ≡ Some port) × (number_in (codes "admin") rows ≡ admin)
-    × (number_in (codes "turns") rows ≡ Some turns) × IsFlagIn (codes "log") rows log
+    × (number_in (codes "turns") rows ≡ Some rounds) × IsFlagIn (codes "log") rows log
     × IsFlagIn (codes "forget-rooms") rows forget_rooms × IsFlagIn (codes "closed") rows closed
     × (number_in (codes "max-output-mib") rows ≡ Some output_mib) × AreSettingsOf rows now settings
 

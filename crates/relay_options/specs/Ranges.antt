@@ -3,7 +3,7 @@ use Rattle.std.specs.Prelude.{ℕ, ◌≤◌, ◌≢◌, ⊤, Bool, true, Option
 use Rattle.relay_options.specs.declared.job.Job.{Job}
 use Rattle.relay_options.specs.declared.job.Job.TheVariants.{Script, Loop, Follow, Serve}
 use Rattle.relay_options.specs.declared.settings.Settings.{Settings}
-use Rattle.relay_options.specs.declared.settings.TheConstants.{MAX_HISTORY, MAX_WAITING_PATCHES, MAX_ROOMS, MAX_SESSIONS, MAX_EPOCH, MAX_WEIGHT_LIMIT, MAX_OUTPUT_MIB, MAX_TURNS, MAX_PORT}
+use Rattle.relay_options.specs.declared.settings.TheConstants.{MAX_HISTORY, MAX_WAITING_PATCHES, MAX_ROOMS, MAX_SESSIONS, MAX_EPOCH, MAX_WEIGHT_LIMIT, MAX_OUTPUT_MIB, MAX_ROUNDS, MAX_PORT}
 
 -- a limit of a weight, if there is one, is in range
 abbrev pub IsLimit : Option ℕ → Type 0
@@ -41,7 +41,7 @@ abbrev pub IsPossible : Job → Type 0
 IsPossible (Script settings) = AreSettings settings
 IsPossible (Loop settings) = AreSettings settings
 IsPossible Follow = ⊤
-IsPossible (Serve listen port admin turns log forget_rooms closed output_mib settings) =
+IsPossible (Serve listen port admin rounds log forget_rooms closed output_mib settings) =
     (port ≤ MAX_PORT) × IsAdmin port admin × CanBeOpened closed admin
-    × (1 ≤ turns) × (turns ≤ MAX_TURNS) × (1 ≤ output_mib) × (output_mib ≤ MAX_OUTPUT_MIB)
+    × (1 ≤ rounds) × (rounds ≤ MAX_ROUNDS) × (1 ≤ output_mib) × (output_mib ≤ MAX_OUTPUT_MIB)
     × AreSettings settings

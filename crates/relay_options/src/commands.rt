@@ -21,12 +21,13 @@ const SCRIPT_ABOUT: &str =
     "Carries out a script: lines from standard input, answers to standard output";
 
 const SCRIPT_EXAMPLE: &str =
-    "Example, with two revisions of history and one waiting patch:\n\n  relay script --history 2 --outbox 1 < examples/first.script\n\nA line is `NAME open ROOM`, `NAME say TEXT`, `NAME draw`, `NAME close`, `NAME held` or `NAME truth`.";
+    "Example, with two revisions of history and one waiting patch:\n\n  relay script --history 2 --outbox 1 < examples/first.script\n\nA line is `NAME open ROOM`, `NAME say TEXT`, `NAME draw`, `NAME close`, `NAME held` or `NAME truth`.\n\nWeights have no bound unless a --max option gives one.";
 
 const LOOP_ABOUT: &str =
     "Carries out a script through loopback sockets, server and clients in one thread";
 
-const LOOP_EXAMPLE: &str = "Example:\n\n  relay loop < examples/first.script";
+const LOOP_EXAMPLE: &str =
+    "Example:\n\n  relay loop < examples/first.script\n\nWeights have no bound unless a --max option gives one.";
 
 const SERVE_ABOUT: &str =
     "Listens on 127.0.0.1, or another address, and serves WebSocket clients; it sleeps while nothing happens";

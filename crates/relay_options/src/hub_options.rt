@@ -114,7 +114,7 @@ pub(crate) fn history_weight<'a>(alloc: Global) -> Arg<'a>
     ensures { rule_of result ≡ history_weight_option [] }
 {
     number(alloc, "max-history-weight", 0, MAX_WEIGHT_LIMIT).help(
-        "How much the changes that each room holds weigh together at most; a script's may weigh any",
+        "How much the changes that each room holds weigh together at most",
     )
 }
 
@@ -122,7 +122,7 @@ pub(crate) fn waiting_weight<'a>(alloc: Global) -> Arg<'a>
     ensures { rule_of result ≡ waiting_weight_option [] }
 {
     number(alloc, "max-waiting-weight", 0, MAX_WEIGHT_LIMIT).help(
-        "How much the patches that wait for a session weigh together at most; a script's may weigh any",
+        "How much the patches that wait for a session weigh together at most",
     )
 }
 
@@ -130,7 +130,7 @@ pub(crate) fn telling_weight<'a>(alloc: Global) -> Arg<'a>
     ensures { rule_of result ≡ telling_weight_option [] }
 {
     number(alloc, "max-telling-weight", 0, MAX_WEIGHT_LIMIT).help(
-        "How much the patches that are made for one edit weigh together at most; a script's may weigh any",
+        "How much the patches that are made for one edit weigh together at most",
     )
 }
 
@@ -138,7 +138,7 @@ pub(crate) fn view_weight<'a>(alloc: Global) -> Arg<'a>
     ensures { rule_of result ≡ view_weight_option [] }
 {
     number(alloc, "max-view-weight", 0, MAX_WEIGHT_LIMIT).help(
-        "How much the pointers of a view weigh together at most; a script's may weigh any",
+        "How much the pointers of a view weigh together at most",
     )
 }
 

@@ -12,7 +12,7 @@ pub enum Job {
     Loop(Settings),
     /// `relay follow`: apply texts to a follower, one per line.
     Follow,
-    /// `relay serve`: listen on a port, for a number of rounds.
+    /// `relay serve`: listen on a port, for a number of rounds of the event loop.
     Serve {
         /// The address on which it listens for clients.
         listen: IpAddr,
@@ -20,8 +20,9 @@ pub enum Job {
         port: u16,
         /// The port of the operator, if there is one: another one than `port`, and not 0.
         admin: Option<u16>,
-        /// The number of rounds, 1 to 10^12; a stop at the operator's port may end them before.
-        turns: u64,
+        /// `--turns`: the number of rounds, 1 to 10^12. A stop at the operator's port may end them
+        /// before.
+        rounds: u64,
         /// Whether the server logs its connections.
         log: bool,
         /// Whether the room that has been empty for the longest time is forgotten once all places

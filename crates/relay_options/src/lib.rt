@@ -14,6 +14,6 @@ mod values;
 pub use job::{Job, Stop};
 pub use reading::job_of;
 pub use settings::{
-    MAX_EPOCH, MAX_HISTORY, MAX_PORT, MAX_ROOMS, MAX_SESSIONS, MAX_TURNS, MAX_WAITING_PATCHES,
+    MAX_EPOCH, MAX_HISTORY, MAX_PORT, MAX_ROOMS, MAX_ROUNDS, MAX_SESSIONS, MAX_WAITING_PATCHES,
     Settings,
 };

@@ -6,14 +6,14 @@ ghost use Rattle.relay_options.specs.CommandLine.{IsAddressIn, IsFlagIn, IsJobOf
 ghost use Rattle.relay_options.specs.CommandLine.{closed_option, epoch_option};
 ghost use Rattle.relay_options.specs.CommandLine.{forget_rooms_option, listen_option, log_option};
 ghost use Rattle.relay_options.specs.CommandLine.{number_in, output_option, port_option};
-ghost use Rattle.relay_options.specs.CommandLine.{turns_option, with_server_options};
+ghost use Rattle.relay_options.specs.CommandLine.{rounds_option, with_server_options};
 ghost use Rattle.relay_options.specs.Ranges.{CanBeOpened, IsAdmin, IsPossible};
 
 use crate::hub_options::{
     epoch, history_weight, settings_of, telling_weight, view_weight, waiting_weight, with_settings,
 };
 use crate::job::{Job, Stop};
-use crate::settings::{MAX_OUTPUT_MIB, MAX_PORT, MAX_TURNS};
+use crate::settings::{MAX_OUTPUT_MIB, MAX_PORT, MAX_ROUNDS};
 use crate::values::{given_address, given_number, is_set, number, number_of};
 use clap::{Arg, ArgAction, ArgMatches, Command};
 use std::alloc::{AllocError, Global};
@@ -22,7 +22,7 @@ use std::net::IpAddr;
 /// The default of `--listen`: clients on this machine alone.
 const LISTEN: &str = "127.0.0.1";
 
-const TURNS: &str = "1000000000000";
+const ROUNDS: &str = "1000000000000";
 
 const OUTPUT_MIB: &str = "256";
 
@@ -54,7 +54,7 @@ pub(crate) fn with_server_options<'a>(
         .arg(listen(alloc))?
         .arg(port(alloc))?
         .arg(admin(alloc))?
-        .arg(turns(alloc))?
+        .arg(rounds(alloc))?
         .arg(log(alloc))?
         .arg(forget_rooms(alloc))?
         .arg(closed(alloc))?
@@ -99,12 +99,14 @@ fn admin<'a>(alloc: Global) -> Arg<'a>
     )
 }
 
-fn turns<'a>(alloc: Global) -> Arg<'a>
-    ensures { rule_of result ≡ turns_option }
+fn rounds<'a>(alloc: Global) -> Arg<'a>
+    ensures { rule_of result ≡ rounds_option }
 {
-    number(alloc, "turns", 1, MAX_TURNS)
-        .help("How many rounds to make, 1 to 1000000000000; a round sleeps while nothing happens")
-        .default_value(TURNS)
+    number(alloc, "turns", 1, MAX_ROUNDS)
+        .help(
+            "How many rounds of the event loop to make, 1 to 1000000000000; a round sleeps while nothing happens",
+        )
+        .default_value(ROUNDS)
 }
 
 fn log<'a>(alloc: Global) -> Arg<'a>
@@ -159,7 +161,7 @@ pub(crate) fn serve_of(alloc: Global, given: &ArgMatches<'_>, now: Option<u64>) 
         listen: listen_of(alloc, given)?,
         port,
         admin,
-        turns: number_of(alloc, given, "turns", 1, MAX_TURNS)?,
+        rounds: number_of(alloc, given, "turns", 1, MAX_ROUNDS)?,
         log: is_set(given, "log"),
         forget_rooms: is_set(given, "forget-rooms"),
         closed: closed_of(alloc, given, admin)?,

@@ -18,8 +18,8 @@ pub const MAX_EPOCH: u64 = 9_007_199_254_740_991;
 /// The largest weight that an option accepts.
 pub const MAX_WEIGHT_LIMIT: u64 = 9_007_199_254_740_991;
 
-/// The largest number of rounds of a server.
-pub const MAX_TURNS: u64 = 1_000_000_000_000;
+/// The largest `--turns`, in rounds of the event loop.
+pub const MAX_ROUNDS: u64 = 1_000_000_000_000;
 
 /// The largest `--max-output-mib`: 1 TiB.
 pub const MAX_OUTPUT_MIB: u64 = 1_048_576;

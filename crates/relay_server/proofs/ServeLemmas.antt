@@ -45,66 +45,66 @@ part_behind old mid new bs more first (n, few, wrote) = (
 )
 
 -- the output of a server that ran its rounds, or ended early while printing
-pub ends_hosting : (turns port : ℕ) (ended : Result (Unit {0}) ServeFault)
-    (old new : Option (List ℕ)) → OnOk ended (Appends old new (served_text port turns))
-    → OnErr ended (AppendsPart old new (served_text port turns))
+pub ends_hosting : (rounds port : ℕ) (ended : Result (Unit {0}) ServeFault)
+    (old new : Option (List ℕ)) → OnOk ended (Appends old new (served_text port rounds))
+    → OnErr ended (AppendsPart old new (served_text port rounds))
     → IfErr ended (λ fault. fault ≡ Ended NoMemory → Listens port old new)
     → IfErr ended (λ fault. (fault ≡ Ended Output) ⊎ (fault ≡ Ended NoMemory))
-    → ServeEnds turns ended old new
-ends_hosting turns port (Ok u) old new all part uncut which = (port, all)
-ends_hosting turns port (Err fault) old new all part uncut (inl output) =
-    subst (λ f. ServeEnds turns (Err f) old new) (sym output) (port, part)
-ends_hosting turns port (Err fault) old new all part uncut (inr memory) =
-    subst (λ f. ServeEnds turns (Err f) old new) (sym memory) (port, uncut memory)
+    → ServeEnds rounds ended old new
+ends_hosting rounds port (Ok u) old new all part uncut which = (port, all)
+ends_hosting rounds port (Err fault) old new all part uncut (inl output) =
+    subst (λ f. ServeEnds rounds (Err f) old new) (sym output) (port, part)
+ends_hosting rounds port (Err fault) old new all part uncut (inr memory) =
+    subst (λ f. ServeEnds rounds (Err f) old new) (sym memory) (port, uncut memory)
 
 -- all rounds are as many as a server may make
-made_all : (admin : Option ℕ) (turns : ℕ) → HasMade admin turns turns
-made_all None turns = refl
-made_all (Some admin) turns = omega arith
+made_all : (admin : Option ℕ) (rounds : ℕ) → HasMade admin rounds rounds
+made_all None rounds = refl
+made_all (Some admin) rounds = omega arith
 
 -- the same of a server without an operator's port
-pub ends_all : (admin : Option ℕ) (turns port : ℕ) (ended : Result (Unit {0}) ServeFault)
+pub ends_all : (admin : Option ℕ) (rounds port : ℕ) (ended : Result (Unit {0}) ServeFault)
     (old new : Option (List ℕ)) → admin ≡ None
-    → OnOk ended (Appends old new (served_text port turns))
-    → OnErr ended (AppendsPart old new (served_text port turns))
+    → OnOk ended (Appends old new (served_text port rounds))
+    → OnErr ended (AppendsPart old new (served_text port rounds))
     → IfErr ended (λ fault. fault ≡ Ended NoMemory → Listens port old new)
     → IfErr ended (λ fault. (fault ≡ Ended Output) ⊎ (fault ≡ Ended NoMemory))
-    → ServesUpTo admin turns ended old new
-ends_all None turns port ended old new e all part uncut which =
-    (turns, refl, ends_hosting turns port ended old new all part uncut which)
-ends_all (Some admin) turns port ended old new e all part uncut which = absurd (cc)
+    → ServesUpTo admin rounds ended old new
+ends_all None rounds port ended old new e all part uncut which =
+    (rounds, refl, ends_hosting rounds port ended old new all part uncut which)
+ends_all (Some admin) rounds port ended old new e all part uncut which = absurd (cc)
 
 -- and of one with such a port, which may have made fewer rounds
-pub ends_stopped : (admin : Option ℕ) (operator turns port : ℕ)
+pub ends_stopped : (admin : Option ℕ) (operator rounds port : ℕ)
     (ended : Result (Unit {0}) ServeFault) (old new : Option (List ℕ)) → admin ≡ Some operator
-    → OnOk ended ((rounds : ℕ) × (rounds ≤ turns) × Appends old new (served_text port rounds))
-    → OnErr ended ((rounds : ℕ) × (rounds ≤ turns) × AppendsPart old new (served_text port rounds))
+    → OnOk ended ((made : ℕ) × (made ≤ rounds) × Appends old new (served_text port made))
+    → OnErr ended ((made : ℕ) × (made ≤ rounds) × AppendsPart old new (served_text port made))
     → IfErr ended (λ fault. fault ≡ Ended NoMemory → Listens port old new)
     → IfErr ended (λ fault. (fault ≡ Ended Output) ⊎ (fault ≡ Ended NoMemory))
-    → ServesUpTo admin turns ended old new
-ends_stopped None operator turns port ended old new e all part uncut which = absurd (cc)
-ends_stopped (Some admin) operator turns port (Ok u) old new e
-    (rounds, few, wrote) part uncut which =
-    (rounds, few, (port, wrote))
-ends_stopped (Some admin) operator turns port (Err fault) old new e all (
-  rounds,
+    → ServesUpTo admin rounds ended old new
+ends_stopped None operator rounds port ended old new e all part uncut which = absurd (cc)
+ends_stopped (Some admin) operator rounds port (Ok u) old new e
+    (made, few, wrote) part uncut which =
+    (made, few, (port, wrote))
+ends_stopped (Some admin) operator rounds port (Err fault) old new e all (
+  made,
   few,
   wrote,
 ) uncut (inl output) =
-    (rounds, few, subst (λ f. ServeEnds rounds (Err f) old new) (sym output) (port, wrote))
-ends_stopped (Some admin) operator turns port (Err fault) old new e all (
-  rounds,
+    (made, few, subst (λ f. ServeEnds made (Err f) old new) (sym output) (port, wrote))
+ends_stopped (Some admin) operator rounds port (Err fault) old new e all (
+  made,
   few,
   wrote,
 ) uncut (inr memory) =
-    (rounds, few, subst (λ f. ServeEnds rounds (Err f) old new) (sym memory) (port, uncut memory))
+    (made, few, subst (λ f. ServeEnds made (Err f) old new) (sym memory) (port, uncut memory))
 
 -- without sockets nothing is printed
-pub ends_unheard : (admin : Option ℕ) (turns : ℕ) (fault : ServeFault) (old : Option (List ℕ))
-    → HasNoSockets fault → ServesUpTo admin turns (Err fault) old old
-ends_unheard admin turns (Listen address code) old none = (turns, made_all admin turns, refl)
-ends_unheard admin turns Wait old none = (turns, made_all admin turns, refl)
-ends_unheard admin turns (Ended fault) old none = absurd none
+pub ends_unheard : (admin : Option ℕ) (rounds : ℕ) (fault : ServeFault) (old : Option (List ℕ))
+    → HasNoSockets fault → ServesUpTo admin rounds (Err fault) old old
+ends_unheard admin rounds (Listen address code) old none = (rounds, made_all admin rounds, refl)
+ends_unheard admin rounds Wait old none = (rounds, made_all admin rounds, refl)
+ends_unheard admin rounds (Ended fault) old none = absurd none
 
 -- and that is no fault of a limit
 pub unheard_unlimited : (fault : ServeFault) → HasNoSockets fault → fault ≢ Ended BadLimit
@@ -149,43 +149,43 @@ then_part (Ok u) old mid new bs more first last = tt
 then_part (Err fault) old mid new bs more first last = part_behind old mid new bs more first last
 
 -- a server whose hub cannot be created printed nothing
-pub ends_unmade : (admin : Option ℕ) (turns : ℕ) (fault : HubNewFault) (old : Option (List ℕ))
-    → ServesUpTo admin turns (Err (Ended (not_made fault))) old old
-ends_unmade admin turns hub_fault.BadLimit old = (turns, made_all admin turns, refl)
-ends_unmade admin turns hub_fault.NoMemory old =
-    (turns, made_all admin turns, (0, inl (Keeps-refl old)))
+pub ends_unmade : (admin : Option ℕ) (rounds : ℕ) (fault : HubNewFault) (old : Option (List ℕ))
+    → ServesUpTo admin rounds (Err (Ended (not_made fault))) old old
+ends_unmade admin rounds hub_fault.BadLimit old = (rounds, made_all admin rounds, refl)
+ends_unmade admin rounds hub_fault.NoMemory old =
+    (rounds, made_all admin rounds, (0, inl (Keeps-refl old)))
 
 -- The output of a server that may be stopped, for some number of rounds.
 
 -- the last line, behind the first
 pub then_all_made : {E : Type 0} (r : Result (Unit {0}) E) (old mid new : Option (List ℕ))
-    (port rounds turns : ℕ) → rounds ≤ turns
-    → Appends old mid (listening_text port) → OnOk r (Appends mid new (turns_text rounds))
-    → OnOk r ((count : ℕ) × (count ≤ turns) × Appends old new (served_text port count))
-then_all_made (Ok u) old mid new port rounds turns few first last =
-    (rounds, few, Appends-trans old mid new (listening_text port) (turns_text rounds) first last)
-then_all_made (Err fault) old mid new port rounds turns few first last = tt
+    (port made rounds : ℕ) → made ≤ rounds
+    → Appends old mid (listening_text port) → OnOk r (Appends mid new (turns_text made))
+    → OnOk r ((count : ℕ) × (count ≤ rounds) × Appends old new (served_text port count))
+then_all_made (Ok u) old mid new port made rounds few first last =
+    (made, few, Appends-trans old mid new (listening_text port) (turns_text made) first last)
+then_all_made (Err fault) old mid new port made rounds few first last = tt
 
 -- or a part of it
 pub then_part_made : {E : Type 0} (r : Result (Unit {0}) E) (old mid new : Option (List ℕ))
-    (port rounds turns : ℕ) → rounds ≤ turns
-    → Appends old mid (listening_text port) → OnErr r (AppendsPart mid new (turns_text rounds))
-    → OnErr r ((count : ℕ) × (count ≤ turns) × AppendsPart old new (served_text port count))
-then_part_made (Ok u) old mid new port rounds turns few first last = tt
-then_part_made (Err fault) old mid new port rounds turns few first last =
-    (rounds, few, part_behind old mid new (listening_text port) (turns_text rounds) first last)
+    (port made rounds : ℕ) → made ≤ rounds
+    → Appends old mid (listening_text port) → OnErr r (AppendsPart mid new (turns_text made))
+    → OnErr r ((count : ℕ) × (count ≤ rounds) × AppendsPart old new (served_text port count))
+then_part_made (Ok u) old mid new port made rounds few first last = tt
+then_part_made (Err fault) old mid new port made rounds few first last =
+    (made, few, part_behind old mid new (listening_text port) (turns_text made) first last)
 
 -- or a part of the first line
-pub front_made : (old new : Option (List ℕ)) (port turns : ℕ)
+pub front_made : (old new : Option (List ℕ)) (port rounds : ℕ)
     → AppendsPart old new (listening_text port)
-    → (count : ℕ) × (count ≤ turns) × AppendsPart old new (served_text port count)
-front_made old new port turns part =
+    → (count : ℕ) × (count ≤ rounds) × AppendsPart old new (served_text port count)
+front_made old new port rounds part =
     (0, omega arith, part_front old new (listening_text port) (turns_text 0) part)
 
 -- or nothing
-pub none_made : (old : Option (List ℕ)) (port turns : ℕ)
-    → (count : ℕ) × (count ≤ turns) × AppendsPart old old (served_text port count)
-none_made old port turns = front_made old old port turns (part_none old (listening_text port))
+pub none_made : (old : Option (List ℕ)) (port rounds : ℕ)
+    → (count : ℕ) × (count ≤ rounds) × AppendsPart old old (served_text port count)
+none_made old port rounds = front_made old old port rounds (part_none old (listening_text port))
 
 -- what ended for its output, or for memory, did not end for a limit
 pub never_limited : {A : Type 0} (r : Result A ServeFault)

@@ -78,28 +78,28 @@ HasNoSockets _ = ⊤
 abbrev pub Listens : ℕ → Option (List ℕ) → Option (List ℕ) → Type 0
 Listens port old new = Keeps old new ⊎ Appends old new (listening_text port)
 
--- How a server that made `turns` rounds ends, by what was written before and after. On success it
+-- How a server that made `rounds` rounds ends, by what was written before and after. On success it
 -- wrote both of its lines, for some port. At `BadLimit`, or without sockets, it wrote nothing; at
 -- `NoMemory`, nothing or the first line; at another fault, a prefix of both lines.
 abbrev pub ServeEnds : ℕ → Result (Unit {0}) ServeFault → Option (List ℕ) → Option (List ℕ) → Type 0
-ServeEnds turns (Ok u) old new = (port : ℕ) × Appends old new (served_text port turns)
-ServeEnds turns (Err (serve.Ended BadLimit)) old new = new ≡ old
-ServeEnds turns (Err (serve.Ended NoMemory)) old new = (port : ℕ) × Listens port old new
-ServeEnds turns (Err (serve.Ended fault)) old new =
-    (port : ℕ) × AppendsPart old new (served_text port turns)
-ServeEnds turns (Err _) old new = new ≡ old
+ServeEnds rounds (Ok u) old new = (port : ℕ) × Appends old new (served_text port rounds)
+ServeEnds rounds (Err (serve.Ended BadLimit)) old new = new ≡ old
+ServeEnds rounds (Err (serve.Ended NoMemory)) old new = (port : ℕ) × Listens port old new
+ServeEnds rounds (Err (serve.Ended fault)) old new =
+    (port : ℕ) × AppendsPart old new (served_text port rounds)
+ServeEnds rounds (Err _) old new = new ≡ old
 
--- How many rounds a server made that should run `turns`: all of them, or, if it has an operator's
+-- A server that should make `rounds` rounds made so many: all of them, or, if it has an operator's
 -- port, no more.
 abbrev pub HasMade : Option ℕ → ℕ → ℕ → Type 0
-HasMade None turns rounds = rounds ≡ turns
-HasMade (Some admin) turns rounds = rounds ≤ turns
+HasMade None rounds made = made ≡ rounds
+HasMade (Some admin) rounds made = made ≤ rounds
 
--- how a server ends that should run `turns` rounds, and may have an operator's port
+-- how a server ends that should make `rounds` rounds, and may have an operator's port
 abbrev pub ServesUpTo : Option ℕ → ℕ → Result (Unit {0}) ServeFault → Option (List ℕ)
     → Option (List ℕ) → Type 0
-ServesUpTo admin turns ended old new =
-    (rounds : ℕ) × HasMade admin turns rounds × ServeEnds rounds ended old new
+ServesUpTo admin rounds ended old new =
+    (made : ℕ) × HasMade admin rounds made × ServeEnds made ended old new
 
 -- the same for a job that ends with this status, and at `BadLimit` exactly if a limit is out of
 -- range
@@ -118,9 +118,9 @@ JobEnds job.Follow status input left old new =
     EndsAs follow.Answers None ⊥ status input left old new
 JobEnds (job.Loop settings) status input left old new =
     EndsBy (λ ended. LoopEnds ended input left old new) settings status
-JobEnds (job.Serve listen port admin turns log forget_rooms closed output_mib settings) status
+JobEnds (job.Serve listen port admin rounds log forget_rooms closed output_mib settings) status
     input left old new =
-    (left ≡ input) × EndsBy (λ ended. ServesUpTo admin turns ended old new) settings status
+    (left ≡ input) × EndsBy (λ ended. ServesUpTo admin rounds ended old new) settings status
 
 -- the text was written, or a prefix of it if the writer failed
 abbrev pub Shows : List ℕ → Status → Option (List ℕ) → Option (List ℕ) → Type 0

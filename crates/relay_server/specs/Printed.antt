@@ -10,7 +10,7 @@ abbrev pub listening_text : ℕ → List ℕ
 listening_text port = line_of (codes "listening") port
 
 abbrev pub turns_text : ℕ → List ℕ
-turns_text turns = line_of (codes "turns") turns
+turns_text rounds = line_of (codes "turns") rounds
 
 abbrev pub served_text : ℕ → ℕ → List ℕ
-served_text port turns = listening_text port ++ turns_text turns
+served_text port rounds = listening_text port ++ turns_text rounds

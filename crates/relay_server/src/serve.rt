@@ -38,7 +38,7 @@ pub struct ServeOptions {
     /// The port of the operator on 127.0.0.1, if there is one.
     pub admin: Option<u16>,
     /// The number of rounds, which a stop at the operator's port may cut short.
-    pub turns: u64,
+    pub rounds: u64,
     /// Whether it logs its connections.
     pub log: bool,
     /// Whether the room that has been empty for the longest time is forgotten once all places are
@@ -62,7 +62,7 @@ pub fn serve<N: Clock + Net, W: Write, E: Write>(
     options: ServeOptions,
     settings: Settings,
 ) -> Result<(), ServeFault>
-    ensures ends { ServesUpTo options.admin options.turns result (W.contents writer.old)
+    ensures ends { ServesUpTo options.admin options.rounds result (W.contents writer.old)
         (W.contents writer.new) }
     ensures bad_limit { IsErrOf result (Ended BadLimit) ↔ BadLimits (config_of settings) }
 {
@@ -100,7 +100,7 @@ fn serve_logged<N: Clock + Net, W: Write, J: ConnectionLog>(
     options: ServeOptions,
     settings: Settings,
 ) -> Result<(), ServeFault>
-    ensures ends { ServesUpTo options.admin options.turns result (W.contents writer.old)
+    ensures ends { ServesUpTo options.admin options.rounds result (W.contents writer.old)
         (W.contents writer.new) }
     ensures bad_limit { IsErrOf result (Ended BadLimit) ↔ BadLimits (config_of settings) }
 {
@@ -120,7 +120,7 @@ fn serve_hub<N: Clock + Net, W: Write, J: ConnectionLog>(
     settings: Settings,
 ) -> Result<(), ServeFault>
     requires { hub.config ≡ config_of settings }
-    ensures ends { ServesUpTo options.admin options.turns result (W.contents writer.old)
+    ensures ends { ServesUpTo options.admin options.rounds result (W.contents writer.old)
         (W.contents writer.new) }
     ensures limits { IfErr result (λ fault. fault ≢ Ended BadLimit) }
 {
@@ -130,7 +130,7 @@ fn serve_hub<N: Clock + Net, W: Write, J: ConnectionLog>(
     let Some(admin) = options.admin else {
         let readiness = AdminReadiness::without_port(polling, net);
         let mut server = server_of(alloc, hub, readiness, options);
-        return host(alloc, writer, log, &mut server, &bound, options.turns);
+        return host(alloc, writer, log, &mut server, &bound, options.rounds);
     };
     let admin = bound_listener::open_admin(net, admin, &polling)?;
     let readiness = AdminReadiness::new(polling, net);
@@ -142,7 +142,7 @@ fn serve_hub<N: Clock + Net, W: Write, J: ConnectionLog>(
         &mut server,
         &bound,
         &mut AdminPort::new(alloc, admin),
-        options.turns,
+        options.rounds,
     )
 }
 
@@ -172,22 +172,22 @@ fn host<L: OpenListener, P: Readiness<L::Stream>, W: Write, J: ConnectionLog>(
     log: &mut J,
     server: &mut Server<L::Stream, P>,
     bound: &BoundListener<L>,
-    turns: u64,
+    rounds: u64,
 ) -> Result<(), ServeFault>
 where
     L::Stream: Read + Write + OpenStream + Drop,
     ensures rounds { RoundsOf L.Stream.remaining server.old server.new }
     ensures done { OnOk result (Appends (W.contents writer.old) (W.contents writer.new)
-        (served_text bound.now.port turns)) }
+        (served_text bound.now.port rounds)) }
     ensures stopped { OnErr result (AppendsPart (W.contents writer.old) (W.contents writer.new)
-        (served_text bound.now.port turns)) }
+        (served_text bound.now.port rounds)) }
     ensures uncut { IfErr result (λ fault. fault ≡ Ended NoMemory
         → Listens bound.now.port (W.contents writer.old) (W.contents writer.new)) }
     ensures fault { IfErr result (λ fault. (fault ≡ Ended Output) ⊎ (fault ≡ Ended NoMemory)) }
 {
     tell(alloc, writer, "listening", bound.port as u64)?;
-    server.run(alloc, &bound.listener, turns, log);
-    tell(alloc, writer, "turns", turns)
+    server.run(alloc, &bound.listener, rounds, log);
+    tell(alloc, writer, "turns", rounds)
 }
 
 /// The same for a server with an admin port, which prints how many rounds it ran before it was
@@ -206,24 +206,24 @@ fn host_administered<
     server: &mut Server<L::Stream, AdminReadiness<'_, P, C>>,
     bound: &BoundListener<L>,
     admin: &mut AdminPort<L>,
-    turns: u64,
+    rounds: u64,
 ) -> Result<(), ServeFault>
 where
     L::Stream: Read + Write + OpenStream + Drop,
     ensures rounds { RoundsOf L.Stream.remaining server.old server.new }
-    ensures done { OnOk result ((rounds : ℕ) × (rounds ≤ turns)
+    ensures done { OnOk result ((made : ℕ) × (made ≤ rounds)
         × Appends (W.contents writer.old) (W.contents writer.new)
-        (served_text bound.now.port rounds)) }
-    ensures stopped { OnErr result ((rounds : ℕ) × (rounds ≤ turns)
+        (served_text bound.now.port made)) }
+    ensures stopped { OnErr result ((made : ℕ) × (made ≤ rounds)
         × AppendsPart (W.contents writer.old) (W.contents writer.new)
-        (served_text bound.now.port rounds)) }
+        (served_text bound.now.port made)) }
     ensures uncut { IfErr result (λ fault. fault ≡ Ended NoMemory
         → Listens bound.now.port (W.contents writer.old) (W.contents writer.new)) }
     ensures fault { IfErr result (λ fault. (fault ≡ Ended Output) ⊎ (fault ≡ Ended NoMemory)) }
 {
     tell(alloc, writer, "listening", bound.port as u64)?;
-    let rounds = server.run_administered(alloc, &bound.listener, admin, turns, log);
-    tell(alloc, writer, "turns", rounds)
+    let made = server.run_administered(alloc, &bound.listener, admin, rounds, log);
+    tell(alloc, writer, "turns", made)
 }
 
 /// Prints a line of a word and a number. `NoMemory` comes before a byte is written.

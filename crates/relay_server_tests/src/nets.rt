@@ -55,7 +55,7 @@ fn serve_at(listen: IpAddr) -> Job {
         listen,
         port: 7,
         admin: None,
-        turns: 1,
+        rounds: 1,
         log: false,
         forget_rooms: false,
         closed: false,

@@ -7,14 +7,14 @@ use Rattle.relay_server.proofs.serve.host.Goals as goal
 pub returns-in_err-tell-clause-stopped : goal.returns-in_err-tell-clause-stopped
 returns-in_err-tell-clause-stopped g c =
     let p = err_from_is_err_and c.from_residual.result c.from_residual.ensures.1 in
-    rw p.1 (part_front _ _ (listening_text _) (turns_text c.args.turns) c.in_err-tell.ensures.err)
+    rw p.1 (part_front _ _ (listening_text _) (turns_text c.args.rounds) c.in_err-tell.ensures.err)
 
 pub returns-clause-done : goal.returns-clause-done
 returns-clause-done g c =
-    then_all c.tell-2.result _ _ _ (listening_text _) (turns_text c.args.turns)
+    then_all c.tell-2.result _ _ _ (listening_text _) (turns_text c.args.rounds)
     c.in_ok-tell.ensures.ok c.tell-2.ensures.ok
 
 pub returns-clause-stopped : goal.returns-clause-stopped
 returns-clause-stopped g c =
-    then_part c.tell-2.result _ _ _ (listening_text _) (turns_text c.args.turns)
+    then_part c.tell-2.result _ _ _ (listening_text _) (turns_text c.args.rounds)
     c.in_ok-tell.ensures.ok c.tell-2.ensures.err

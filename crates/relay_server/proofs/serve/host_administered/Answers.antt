@@ -6,14 +6,14 @@ use Rattle.relay_server.proofs.serve.host_administered.Goals as goal
 pub returns-in_err-tell-clause-stopped : goal.returns-in_err-tell-clause-stopped
 returns-in_err-tell-clause-stopped g c =
     let p = err_from_is_err_and c.from_residual.result c.from_residual.ensures.1 in
-    rw p.1 (front_made _ _ _ c.args.turns c.in_err-tell.ensures.err)
+    rw p.1 (front_made _ _ _ c.args.rounds c.in_err-tell.ensures.err)
 
 pub returns-clause-done : goal.returns-clause-done
 returns-clause-done g c =
-    then_all_made c.tell-2.result _ _ _ _ _ c.args.turns c.run_administered-rounds.ensures.at_most
+    then_all_made c.tell-2.result _ _ _ _ _ c.args.rounds c.run_administered-made.ensures.at_most
     c.in_ok-tell.ensures.ok c.tell-2.ensures.ok
 
 pub returns-clause-stopped : goal.returns-clause-stopped
 returns-clause-stopped g c =
-    then_part_made c.tell-2.result _ _ _ _ _ c.args.turns c.run_administered-rounds.ensures.at_most
+    then_part_made c.tell-2.result _ _ _ _ _ c.args.rounds c.run_administered-made.ensures.at_most
     c.in_ok-tell.ensures.ok c.tell-2.ensures.err
