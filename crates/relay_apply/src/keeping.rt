@@ -6,7 +6,7 @@
 //! memory, the value goes back.
 ghost use Rattle.std.specs.Prelude.{◌≡◌, ◌<◌, false, is_some, Ok, Some, OnOk, OnErr, IfOk, IfErr, IfSome, IsOk, vec_len, vec_capacity};
 ghost use Rattle.relay_tree.specs.Document.{Document};
-ghost use Rattle.relay_patch.specs.Measure.{displaced, gone, carries};
+ghost use Rattle.relay_patch.specs.Measure.{displaced, gone, is_transfer};
 ghost use Rattle.relay_patch.specs.Change.{Makes, inserted};
 ghost use Rattle.relay_patch.specs.declared.change.Change.TheVariants.{Move};
 ghost use Rattle.relay_apply.specs.Undo.{target, reinserted, taken_back, undone, removed_part};
@@ -46,7 +46,7 @@ pub(crate) fn make_keeping(
 /// The old and the new place of the value, if the change is a transfer.
 pub(crate) fn as_transfer(change: &Change) -> Option<(&Place, &Place)>
     ensures places { IfSome result (λ m. (v : Document) × (change.now ≡ Move m.0.now m.1.now v)) }
-    ensures is { is_some result ≡ carries change.now }
+    ensures is { is_some result ≡ is_transfer change.now }
 {
     match change {
         Change::Move { from, to, .. } if !in_one_list(from, to) => Some((from, to)),
@@ -63,7 +63,7 @@ pub(crate) fn make_with_undo(
     change: &Change,
 ) -> Result<Undo, AllocError>
     requires makes { (next : Document) × Makes tree.old change.now next }
-    requires in_place { carries change.now ≡ false }
+    requires in_place { is_transfer change.now ≡ false }
     ensures made { OnOk result (Makes tree.old change.now tree.new) }
     ensures back { IfOk result (λ undo. undone undo tree.new ≡ tree.old) }
     ensures went { IfOk result (λ undo. removed_part undo ≡ gone tree.old change.now) }

@@ -5,7 +5,7 @@ ghost use Rattle.relay_pointer.specs.Path.{path_of};
 ghost use Rattle.relay_patch.specs.Walk.{walk};
 ghost use Rattle.relay_patch.specs.Patch.{added, at_path, drop_child};
 ghost use Rattle.relay_patch.specs.Change.{Makes, inserted};
-ghost use Rattle.relay_patch.specs.Measure.{displaced, gone, carries};
+ghost use Rattle.relay_patch.specs.Measure.{displaced, gone, is_transfer};
 
 use crate::container::{drop_child, insert_child};
 use crate::exchange::exchange;
@@ -23,7 +23,7 @@ pub(crate) fn make(
     change: &Change,
 ) -> Result<Option<Tree>, AllocError>
     requires makes { (next : Document) × Makes tree.old change.now next }
-    requires in_place { carries change.now ≡ false }
+    requires in_place { is_transfer change.now ≡ false }
     ensures made { OnOk result (Makes tree.old change.now tree.new) }
     ensures went { IfOk result (λ went. went ≡ gone tree.old change.now) }
     ensures err { OnErr result (tree.new ≡ tree.old) }

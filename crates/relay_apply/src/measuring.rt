@@ -3,7 +3,7 @@
 ghost use Rattle.std.specs.Prelude.{◌≡◌, ◌≢◌, ◌<◌, ◌≤◌, ◌-◌, ◌+◌, ◌^◌, Some, Ok, Err, OnOk, IfOk, IfErr, IsOk, false, length, option_copied};
 ghost use Rattle.relay_tree.specs.Document.{Document, depth, weight, saturated};
 ghost use Rattle.relay_patch.specs.Patch.{within, exceeds};
-ghost use Rattle.relay_patch.specs.Measure.{reach, displaced, gone, carries, Known, lost, gained, part_weight, name_weight, place_weight, new_name, judged, Became};
+ghost use Rattle.relay_patch.specs.Measure.{reach, displaced, gone, is_transfer, Known, lost, gained, part_weight, name_weight, place_weight, new_name, judged, Became};
 ghost use Rattle.relay_patch.specs.declared.fault.Cause.TheVariants.{NoMemory};
 
 use relay_patch::{Bounds, Cause, Change, Place};
@@ -60,7 +60,7 @@ pub(crate) fn weight_after(
 
 /// Returns the value that a change removes or replaces, if it is no transfer.
 pub(crate) fn gone<'t>(tree: &'t Tree, change: &Change) -> Option<&'t Tree>
-    ensures { carries change.now ≡ false → option_copied result ≡ gone tree.now change.now }
+    ensures { is_transfer change.now ≡ false → option_copied result ≡ gone tree.now change.now }
 {
     match change {
         Change::Set { path, .. } => resolve(tree, path),

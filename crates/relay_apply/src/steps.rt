@@ -7,7 +7,7 @@ ghost use Rattle.relay_tree.specs.declared.budget.Budget.{Budget};
 ghost use Rattle.relay_patch.specs.Patch.{effect, within};
 ghost use Rattle.relay_patch.specs.After.{afforded, performed};
 ghost use Rattle.relay_patch.specs.Change.{Makes, Leads, changes_of};
-ghost use Rattle.relay_patch.specs.Measure.{carries, Known};
+ghost use Rattle.relay_patch.specs.Measure.{is_transfer, Known};
 ghost use Rattle.relay_apply.specs.Steps.{listed, IsOverspent};
 ghost use Rattle.relay_apply.specs.Undo.{taken_back};
 ghost use Rattle.relay_patch.specs.Weight.{change_weight, changes_weight};
@@ -292,7 +292,7 @@ fn make_last(
     bounds: Bounds,
 ) -> Result<u64, Cause>
     requires makes { (next : Document) × Makes tree.old change.now next }
-    requires in_place { carries change.now ≡ false }
+    requires in_place { is_transfer change.now ≡ false }
     requires known { Known bounds tree.old (Some weight) }
     ensures known { IfOk result (λ n. Known bounds tree.new (Some n)) }
     ensures made { OnOk result (Makes tree.old change.now tree.new) }
@@ -349,7 +349,7 @@ fn make_in_place(
     bounds: Bounds,
 ) -> Result<u64, Cause>
     requires makes { (next : Document) × Makes tree.old change.now next }
-    requires in_place { carries change.now ≡ false }
+    requires in_place { is_transfer change.now ≡ false }
     requires known { Known bounds tree.old (Some weight) }
     ensures known { IfOk result (λ n. Known bounds tree.new (Some n)) }
     ensures made { OnOk result (Makes tree.old change.now tree.new) }

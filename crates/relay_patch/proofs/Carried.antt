@@ -9,7 +9,7 @@ use Rattle.relay_patch.specs.Place.{Place, beside, in_one_list}
 use Rattle.relay_patch.specs.Patch.{Act, below, at_path, insert_child, drop_child, added, replaced}
 use Rattle.relay_patch.specs.Change.{Change, Makes, Moves, in_list, in_object, placed, dropped, inserted, inserted_at}
 use Rattle.relay_patch.specs.declared.change.Change.TheVariants as change
-use Rattle.relay_patch.specs.Measure.{displaced, gone, carries}
+use Rattle.relay_patch.specs.Measure.{displaced, gone, is_transfer}
 use Rattle.relay_tree.proofs.Outcomes.{is_ok_then, some_ok}
 use Rattle.relay_patch.proofs.Parts.{at_index}
 use Rattle.relay_patch.proofs.Inside.{was_inside}
@@ -95,9 +95,9 @@ pub moves_as : (c : Change) (d : Document) (from to : Place) (v : Document)
     → c ≡ change.Move from to v → (m : CanMake d c) → Moves d from to v m.0
 moves_as c d from to v is m = subst (λ e. Makes d e m.0) is m.1
 
--- a move that carries nothing is one within a list
+-- a move that is no transfer is one within a list
 pub stays_in_list : (c : Change) (from to : Place) (v : Document) → c ≡ change.Move from to v
-    → carries c ≡ false → in_one_list from to ≡ true
+    → is_transfer c ≡ false → in_one_list from to ≡ true
 stays_in_list c from to v is stays = go (in_one_list from to) (rw is at stays)
   where
     go : (x : Bool) → not x ≡ false → x ≡ true
@@ -113,7 +113,7 @@ slid_makes c d from to v n is m made =
 
 -- such a move removes and replaces nothing
 pub slid_gone : (c : Change) (d : Document) (from to : Place) (v : Document)
-    → c ≡ change.Move from to v → carries c ≡ false → None ≡ gone d c
+    → c ≡ change.Move from to v → is_transfer c ≡ false → None ≡ gone d c
 slid_gone c d from to v is stays =
     rw is (go from.item to.item (beside from.path to.path) (stays_in_list c from to v is stays)
     (result_ok (at_path drop_child from.path d)))

@@ -37,10 +37,11 @@ gone d (change.Move from to v) =
     option_and_then (displaced to) (result_ok (at_path drop_child from.path d))
 gone d (change.Copy from to v) = displaced to d
 
--- whether a change removes a value and inserts it elsewhere: any move except one within a list
-abbrev pub carries : Change → Bool
-carries (change.Move from to v) = not (in_one_list from to)
-carries _ = false
+-- whether a change is a transfer: it removes a value and inserts it elsewhere, as any move does
+-- except one within a list
+abbrev pub is_transfer : Change → Bool
+is_transfer (change.Move from to v) = not (in_one_list from to)
+is_transfer _ = false
 
 abbrev pub part_weight : Option Document → ℕ
 part_weight None = 0
