@@ -2,6 +2,7 @@ pub mod Cases
 pub mod Lists
 pub mod Sessions
 pub mod Serving
+pub mod Snapshots
 pub mod Queries
 pub mod Untold
 pub mod Views

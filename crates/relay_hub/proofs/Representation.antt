@@ -66,6 +66,16 @@ written (e ∷ es) (suc i) old new h =
     let rest = written es i old new h in
     record { name = rest.name; was = rest.was; is = ap (λ rooms. named e ∷ rooms) rest.is }
 
+-- rooms of which one was written as it was are the same
+pub same_rooms : {A : Type 0} (es : List (String A × RoomSessions)) (i : ℕ) (old new : RoomSessions)
+    → slice_get (values_of es) i ≡ Some old → new ≡ old
+    → map named (set_value_at es i new) ≡ map named es
+same_rooms es i old new there same =
+    let w = written es i old new there in
+    w.is
+    ∙ (ap (λ g. slice_set (map named es) i (w.name, g)) same
+    ∙ slice_set_same (map named es) i (w.name, old) w.was)
+
 gone : {A : Type 0} (es : List (String A × RoomSessions)) (i : ℕ)
     → slice_get (values_of es) i ≡ None → slice_get (map named es) i ≡ None
 gone [] i h = refl

@@ -6,6 +6,7 @@ pub mod State
 pub mod Representation
 pub mod EncodedPatch
 pub mod Session
+pub mod SnapshotText
 pub mod Load
 pub mod Update
 pub mod Caller

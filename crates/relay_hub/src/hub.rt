@@ -26,6 +26,7 @@ use crate::config::HubConfig;
 use crate::entering::{NewSession, open_session, vacant_index};
 use crate::event::{Heard, Opening};
 use crate::fault::{ForgetFault, HubFault, HubNewFault, NoSession, OpenFault};
+use crate::kept_texts::bound_texts;
 use crate::message_counts::MessageCounts;
 use crate::report::Report;
 use crate::room_sessions::RoomSessions;
@@ -54,6 +55,8 @@ pub struct Hub {
     /// session.
     wills: Vec<Will>,
     counts: MessageCounts,
+    /// At least the bytes of the texts that the rooms keep of snapshots.
+    kept_bytes: u64,
     /// Whom the last text or will told something, and what all of them cost.
     report: Report,
     /// The memory in which texts are read.
@@ -137,6 +140,7 @@ impl Hub {
             homes: IndexMap::new(alloc),
             wills,
             counts: MessageCounts::none(),
+            kept_bytes: 0,
             report: Report::new(alloc),
             scratch,
         })
@@ -309,7 +313,10 @@ impl Hub {
         let Some(room_sessions) = self.rooms.get_index_mut(*index) else {
             unreachable!()
         };
-        room_sessions.draw(alloc, session, &mut self.counts)
+        let before = room_sessions.snapshot_bytes();
+        let text = room_sessions.draw(alloc, session, &mut self.counts);
+        bound_texts(&mut self.rooms, &mut self.kept_bytes, *index, before);
+        text
     }
 
     /// Closes a session. Its room stays, and its will, if it has one, is left to be done
@@ -414,5 +421,6 @@ impl Hub {
             → StandsFor b E self.new }
     {
         shed_rooms(&mut self.rooms, shed_budget(self.config.history_weight));
+        self.kept_bytes = 0;
     }
 }

@@ -8,6 +8,7 @@ ghost use Rattle.relay_hub.specs.Call.{drawing, WillServedIf, DrawsIf, ChangesBy
 ghost use Rattle.relay_hub.specs.Caller.{IsCaller};
 ghost use Rattle.relay_hub.specs.Refusal.{cause_word, edit_refusal};
 ghost use Rattle.relay_hub.specs.Session.{Session, leaves_will, watches as watching, unwatches, waiting};
+ghost use Rattle.relay_hub.specs.SnapshotText.{IsSnapshotText};
 ghost use Rattle.relay_hub.specs.State.{IsRising, is_number, room_sessions, numbers, session_in};
 ghost use Rattle.relay_hub.specs.Step.{EditServed, WillServed, ResumeServed, Serves, OnlyAt};
 ghost use Rattle.relay_hub.specs.Told.{ChangesTold, ChangesToldAnd};
@@ -24,6 +25,7 @@ use crate::message_counts::MessageCounts;
 use crate::report::Report;
 use crate::session::Session;
 use crate::shared_view::SharedView;
+use crate::snapshot_text::SnapshotText;
 use crate::text_size::TextSize;
 use crate::told::Told;
 use crate::update::Update;
@@ -406,20 +408,23 @@ fn shared_view(alloc: Global, sessions: &[Session], view: View) -> Result<Shared
 pub fn draw(
     alloc: Global,
     room: &Room,
+    snapshot: &mut SnapshotText,
     sessions: &mut [Session],
     number: u64,
     counts: &mut MessageCounts,
 ) -> Result<Option<String>, HubFault>
     requires there { IsSome (session_in sessions.old number) }
     requires rising { IsRising sessions.old }
+    requires kept { IsSnapshotText room.now snapshot.old }
     ensures step { DrawsIf number (drawing result) (room_sessions room.now sessions.old)
         (room_sessions room.now sessions.new) }
     ensures numbers { numbers sessions.new ≡ numbers sessions.old }
     ensures no_memory { IsErrOf result HubFault.NoMemory
         → IsSomeAnd (option_map waiting (session_in sessions.old number)) (λ n. 0 < n) }
+    ensures kept { IsSnapshotText room.now snapshot.new }
 {
     let caller = Caller::find(sessions, number);
-    match session_mut(sessions, caller).draw(alloc, room, counts) {
+    match session_mut(sessions, caller).draw(alloc, room, snapshot, counts) {
         Ok(text) => Ok(text),
         Err(_) => Err(HubFault::NoMemory),
     }

@@ -3,7 +3,7 @@
 ghost use Rattle.std.specs.Prelude.{◌≡◌};
 ghost use Rattle.relay_hub.specs.State.{is_null};
 
-use crate::asked::ask;
+use crate::asked::{Asked, ask};
 use crate::caller::{Caller, session_at};
 use crate::config::HubConfig;
 use crate::event::Heard;
@@ -12,6 +12,7 @@ use crate::message_counts::MessageCounts;
 use crate::report::Report;
 use crate::session::Session;
 use crate::shed::shed_sessions;
+use crate::snapshot_text::SnapshotText;
 use crate::told::Told;
 use crate::{cost, requests};
 use relay_patch::Patch;
@@ -22,18 +23,21 @@ use std::alloc::{AllocError, Global};
 use std::marker::Model;
 
 /// A room with its sessions in the order in which they were opened, so that their numbers rise and
-/// one is found by a binary search. Contracts see the room and the sessions, but not the index,
-/// which has the view of each session that watches.
+/// one is found by a binary search. Contracts see the room and the sessions, but neither the index,
+/// which has the view of each session that watches, nor the text that is kept of a snapshot.
 #[derive(Drop)]
 pub struct RoomSessions {
     room: Room,
     sessions: Vec<Session>,
     watches: WatchIndex,
+    /// The text of the present snapshot. It is dropped before the room may change.
+    snapshot: SnapshotText,
 }
 
 impl Model for RoomSessions {
     ghost use Rattle.relay_patch.specs.contracts.change.Change as change;
     ghost use Rattle.relay_hub.specs.contracts.session.Session as session;
+    ghost use Rattle.relay_hub.specs.SnapshotText.{IsSnapshotText};
     ghost use Rattle.relay_hub.specs.State.{RoomSessions, room_sessions, room_sessions_code};
     ghost use Rattle.relay_hub.specs.Watched.{IsIndexed};
 
@@ -43,7 +47,8 @@ impl Model for RoomSessions {
 
     ghost view = { λ g. room_sessions g.room g.sessions.items };
 
-    ghost invariant = { λ g. IsIndexed g.watches g.sessions.items };
+    ghost invariant = { λ g. IsIndexed g.watches g.sessions.items
+        × IsSnapshotText g.room g.snapshot };
 }
 
 impl RoomSessions {
@@ -52,10 +57,11 @@ impl RoomSessions {
     ghost use Rattle.relay_room.specs.Room.{begun, revision};
     ghost use Rattle.relay_tree.specs.Document.{null};
     ghost use Rattle.relay_hub.specs.Call.{receiving, drawing, ReceivesIf, WillServedIf, DrawsIf, HasSpace, IsAbove};
+    ghost use Rattle.relay_hub.specs.Caller.{IsCaller};
     ghost use Rattle.relay_hub.specs.Session.{Session, waiting};
     ghost use Rattle.relay_hub.specs.Shed.{shed_room};
     ghost use Rattle.relay_hub.specs.State.{room_sessions, is_evictable, above, session_in};
-    ghost use Rattle.relay_hub.specs.Step.{ChangesOnly, anew_fault};
+    ghost use Rattle.relay_hub.specs.Step.{ChangesOnly, Serves, anew_fault};
     ghost use Rattle.relay_hub.specs.Told.{ChangesTold, ChangesToldAnd};
     ghost use Rattle.relay_hub.specs.declared.fault.ForgetFault.TheVariants.{NoMemory};
 
@@ -71,6 +77,7 @@ impl RoomSessions {
             room,
             sessions,
             watches,
+            snapshot: SnapshotText::none(),
         })
     }
 
@@ -96,6 +103,18 @@ impl RoomSessions {
             load = load.saturating_add(session.load());
         }
         load
+    }
+
+    /// How many bytes the text has that is kept of a snapshot; 0 if none is. Allocates nothing.
+    pub fn snapshot_bytes(&self) -> u64 {
+        self.snapshot.bytes()
+    }
+
+    /// Drops the text that is kept of a snapshot. Allocates nothing.
+    pub fn drop_snapshot(&mut self)
+        ensures { self.new ≡ self.old }
+    {
+        self.snapshot = SnapshotText::none();
     }
 
     /// Whether it may be evicted for another room: its document is `null`, nobody is in it, and a
@@ -164,6 +183,7 @@ impl RoomSessions {
         ensures done { WillServedIf config patch.now result self.old self.new }
         ensures told { ChangesTold report.new.told self.old.sessions self.new.sessions }
     {
+        self.snapshot = SnapshotText::none();
         requests::do_will(
             alloc,
             config,
@@ -195,6 +215,7 @@ impl RoomSessions {
         if rev >= MAX_COUNT {
             return Err(ForgetFault::Exhausted);
         }
+        self.snapshot = SnapshotText::none();
         match Room::starting_at(alloc, Tree::from(Node::Null), rev + 1, history) {
             Ok(room) => self.room = room,
             Err(RoomFault::NoMemory) => return Err(ForgetFault::NoMemory),
@@ -203,11 +224,12 @@ impl RoomSessions {
         Ok(rev + 1)
     }
 
-    /// Drops the oldest changes that the budget does not pay for, and folds the patches that wait.
-    /// Allocates nothing.
+    /// Drops the oldest changes that the budget does not pay for and the text that is kept of a
+    /// snapshot, and folds the patches that wait. Allocates nothing.
     pub fn shed(&mut self, budget: Budget)
         ensures { self.new ≡ shed_room budget self.old }
     {
+        self.snapshot = SnapshotText::none();
         self.room.trim(budget);
         shed_sessions(&mut self.sessions);
     }
@@ -238,7 +260,31 @@ impl RoomSessions {
         };
         let held = self.room.history_weight();
         report.cost.add(cost::asking(&asked.request, held));
-        let answered = requests::answer(
+        match self.answer(alloc, config, asked, report) {
+            Ok(short) => Ok(Heard::Answered { short }),
+            Err(_) => Err(HubFault::NoMemory),
+        }
+    }
+
+    /// Does what a session asks ([`requests::answer`]). `AllocError` changes nothing.
+    fn answer(
+        &mut self,
+        alloc: Global,
+        config: HubConfig,
+        asked: Asked,
+        report: &mut Report,
+    ) -> Result<u64, AllocError>
+        requires caller { IsCaller self.old.sessions asked.caller }
+        requires space { HasSpace self.old.sessions asked.caller.number }
+        ensures ok { IfOk result (λ short. (x : Session)
+            → session_in self.old.sessions asked.caller.number ≡ Some x
+            → Serves config asked.caller.number x asked.request short self.old self.new) }
+        ensures told { ChangesToldAnd asked.caller.number report.new.told self.old.sessions
+            self.new.sessions }
+        ensures err { OnErr result (self.new ≡ self.old) }
+    {
+        self.snapshot.drop_over(&asked.request);
+        requests::answer(
             alloc,
             config,
             &mut self.room,
@@ -246,11 +292,7 @@ impl RoomSessions {
             self.sessions.as_mut_slice(),
             asked,
             report,
-        );
-        match answered {
-            Ok(short) => Ok(Heard::Answered { short }),
-            Err(_) => Err(HubFault::NoMemory),
-        }
+        )
     }
 
     /// Removes and returns the text at the front of the outbox of a session that is there
@@ -269,6 +311,7 @@ impl RoomSessions {
         requests::draw(
             alloc,
             &self.room,
+            &mut self.snapshot,
             self.sessions.as_mut_slice(),
             number,
             counts,

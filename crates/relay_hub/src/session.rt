@@ -4,11 +4,12 @@ use crate::config::HubConfig;
 use crate::encoded_patch::EncodedPatch;
 use crate::message_counts::{MessageCounts, SnapshotCause};
 use crate::shared_view::SharedView;
+use crate::snapshot_text::SnapshotText;
 use crate::update::Update;
 use crate::{cost, load};
 use relay_outbox::{Front, Outbox, OutboxFault};
 use relay_patch::Patch;
-use relay_proto::{Access, Reply, shown_text};
+use relay_proto::{Access, Reply};
 use relay_room::Room;
 use relay_tree::Budget;
 use std::alloc::{AllocError, Global};
@@ -71,6 +72,7 @@ impl Session {
     ghost use Rattle.relay_hub.specs.Load.{IsLoad};
     ghost use Rattle.relay_hub.specs.Update.{update_of, heard};
     ghost use Rattle.relay_hub.specs.Shed.{shed_session};
+    ghost use Rattle.relay_hub.specs.SnapshotText.{IsSnapshotText};
     ghost use Rattle.relay_hub.specs.Session.{with_outbox, replied, newcomer, leaves_will, watches, unwatches, resumes, front_message, message_text, ReadsBack, waiting, drawn};
 
     /// Makes a session in a room at revision `rev`. It watches nothing, and a `Welcome` waits in
@@ -273,31 +275,44 @@ impl Session {
 
     /// Removes and returns the text at the front of the outbox; `None` if nothing waits. The text
     /// of a patch is copied, that of a reply is written, and a due snapshot is made from the
-    /// present document. The message is counted. Out of memory leaves it in the outbox.
+    /// present document ([`SnapshotText::draw`]). The message is counted. Out of memory leaves it
+    /// in the outbox.
     pub fn draw(
         &mut self,
         alloc: Global,
         room: &Room,
+        snapshot: &mut SnapshotText,
         counts: &mut MessageCounts,
     ) -> Result<Option<String>, AllocError>
+        requires kept { IsSnapshotText room.now snapshot.old }
         ensures text { IfOk result (λ text. option_map string_bytes text
             ≡ option_map message_text (front_message room.now self.old)) }
         ensures ok { OnOk result (self.new ≡ drawn self.old) }
         ensures err { OnErr result (self.new ≡ self.old) }
         ensures reads_back { OnOk result (ReadsBack (front_message room.now self.old)) }
         ensures no_memory { OnErr result (0 < waiting self.old) }
+        ensures kept { IsSnapshotText room.now snapshot.new }
     {
-        let text = self.front_text(alloc, room)?;
+        let text = self.front_text(alloc, room, snapshot, counts)?;
         self.count_front(text.as_ref(), counts);
         load::drop_front(&mut self.outbox, &mut self.load, self.budget);
         Ok(text)
     }
 
-    fn front_text(&self, alloc: Global, room: &Room) -> Result<Option<String>, AllocError>
+    /// The text of the message at the front of the outbox. Counts what a snapshot cost.
+    fn front_text(
+        &self,
+        alloc: Global,
+        room: &Room,
+        snapshot: &mut SnapshotText,
+        counts: &mut MessageCounts,
+    ) -> Result<Option<String>, AllocError>
+        requires kept { IsSnapshotText room.now snapshot.old }
         ensures text { IfOk result (λ text. option_map string_bytes text
             ≡ option_map message_text (front_message room.now self.now)) }
         ensures reads_back { OnOk result (ReadsBack (front_message room.now self.now)) }
         ensures no_memory { OnErr result (0 < waiting self.now) }
+        ensures kept { IsSnapshotText room.now snapshot.new }
     {
         match self.outbox.front() {
             Front::Nothing => Ok(None),
@@ -307,13 +322,13 @@ impl Session {
                 let Some(view) = &self.view else {
                     unreachable!()
                 };
-                let (rev, document) = (room.revision(), room.document());
-                Ok(Some(shown_text(alloc, rev, view.get(), document)?))
+                Ok(Some(snapshot.draw(alloc, room, view, counts)?))
             }
         }
     }
 
-    /// Counts the message at the front of the outbox, which has this text, and what it cost.
+    /// Counts the message at the front of the outbox, which has this text, and what it cost, unless
+    /// it is a snapshot.
     fn count_front(&self, text: Option<&String>, counts: &mut MessageCounts) {
         let Some(text) = text else {
             return;
@@ -329,10 +344,7 @@ impl Session {
                 counts.count_patch();
                 counts.count_cost(cost::drawing(bytes));
             }
-            Front::Snapshot => {
-                counts.count_snapshot(self.due_for);
-                counts.count_cost(cost::showing(text.as_str()));
-            }
+            Front::Snapshot => counts.count_snapshot(self.due_for),
         }
     }
 

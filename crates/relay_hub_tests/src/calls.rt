@@ -1,6 +1,6 @@
 //! The calls of a hub, as acts of rows. A number behind the word is a session, or the index of a
 //! room.
-use crate::shared::{Came, at_revision, number, owned, words};
+use crate::shared::{Came, at_revision, number, owned, repeated, words};
 use crate::weights::WATCHING;
 use relay_hub::{Hub, HubConfig, HubFault, MessageCounts, OpenFault};
 use relay_proto::Access;
@@ -8,6 +8,10 @@ use relay_test_stream::{Subject, cut, play};
 use relay_tree::{Budget, Tree};
 use std::alloc::{AllocGlobal, Global};
 use std::process::Abort;
+
+/// The edit of [`long_edit`].
+const LONG_EDIT: &str =
+    r#"{"do":"edit","id":1,"patch":[{"op":"replace","path":"","value":"LETTERS"}]}"#;
 
 /// Plays rows on a hub. One that is `new`, with words such as `history=64` behind it, goes on with
 /// another hub. One that is `watching` stands for the rows of [`WATCHING`].
@@ -63,10 +67,21 @@ fn act_on_one(alloc: Global, hub: &mut Hub, word: &str, rest: &str) -> Came {
     let number = number.parse::<u64>().ok()?;
     match word {
         "say" => words(alloc, hub.receive(alloc, number, text)),
+        "say-long" => words(
+            alloc,
+            hub.receive(alloc, number, long_edit(alloc, text)?.as_str()),
+        ),
         "draw" => drawn(alloc, hub.draw(alloc, number)),
+        "draw-bytes" => words(alloc, drawn(alloc, hub.draw(alloc, number))?.len()),
         "close" => words(alloc, hub.close(number)),
         _ => seen_of_one(alloc, hub, word, number),
     }
+}
+
+/// An edit that makes the document a string of so many letters.
+fn long_edit(alloc: Global, letters: &str) -> Came {
+    let letters = repeated(alloc, "a", number(letters)?)?;
+    LONG_EDIT.replace(alloc, "LETTERS", letters.as_str()).ok()
 }
 
 /// What a hub tells of a session, or of the room at an index.

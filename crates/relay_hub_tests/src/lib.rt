@@ -37,6 +37,8 @@ mod shake;
 #[cfg(test)]
 mod shared;
 #[cfg(test)]
+mod snapshots;
+#[cfg(test)]
 mod weights;
 #[cfg(test)]
 mod wills;

@@ -9,4 +9,4 @@ invariant_of-result c =
     let one : c.push.new.self.items ≡ first ∷ [] =
     c.in_ok-push.ensures.items
     ∙ ap (λ (xs : List Session). xs ++ first ∷ []) c.in_ok-sessions.ensures.items in
-    rw (c.new-watches.ensures, one) (first_indexed first c.requires)
+    (rw (c.new-watches.ensures, one) (first_indexed first c.requires), rw c.none.ensures tt)

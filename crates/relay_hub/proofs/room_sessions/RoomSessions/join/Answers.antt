@@ -5,10 +5,12 @@ use Rattle.relay_hub.proofs.room_sessions.RoomSessions.join.Goals as goal
 
 pub invariant_of-self-2 : goal.invariant_of-self-2
 invariant_of-self-2 c =
-    let g = c.self.inside in
-    rw c.in_ok-push.ensures.items
-    (joined_indexed g.watches g.sessions.items c.args.session
-    (rw (← c.self.view_is) at c.requires.fresh) c.requires.idle c.self.invariant)
+    let g = c.self.inside in (
+      rw c.in_ok-push.ensures.items
+          (joined_indexed g.watches g.sessions.items c.args.session
+          (rw (← c.self.view_is) at c.requires.fresh) c.requires.idle c.self.invariant.0),
+      c.self.invariant.1,
+    )
 
 pub returns-clause-ok : goal.returns-clause-ok
 returns-clause-ok c =

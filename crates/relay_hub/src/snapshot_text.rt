@@ -1,0 +1,161 @@
+//! The text of a room's present snapshot. It is written for the first sessions that are due it and
+//! watch the same view, and copied for the others, which costs far less.
+ghost use Rattle.std.specs.Prelude.{◌≡◌, ◌⊎◌, Some, None, IfOk, IfSome, string_bytes};
+ghost use Rattle.relay_hub.specs.EncodedPatch.{IsTextOf};
+ghost use Rattle.relay_hub.specs.Session.{snapshot_of};
+ghost use Rattle.relay_hub.specs.SnapshotText.{IsSnapshotText, kept_over};
+
+use crate::cost;
+use crate::message_counts::MessageCounts;
+use crate::shared_view::SharedView;
+use relay_proto::{Refusal, Request, shown_text};
+use relay_room::Room;
+use std::alloc::{AllocError, Global};
+use std::marker::Model;
+
+/// The most bytes of the texts that the rooms of a hub keep together. A longer text is written for
+/// each session.
+pub(crate) const MAX_KEPT_BYTES: u64 = 4 * 1_024 * 1_024;
+
+/// A text, and the view whose snapshot it is.
+#[derive(Drop)]
+struct KeptText {
+    view: SharedView,
+    text: String,
+}
+
+/// The text of a room's present snapshot for one view, if it is kept. It is from the second one on
+/// that is written for the same view, so that a room with one watcher keeps none. Contracts see the
+/// view and the bytes of the text that is kept.
+#[derive(Drop)]
+pub struct SnapshotText {
+    /// The view whose snapshot was written last.
+    written: Option<SharedView>,
+    kept: Option<KeptText>,
+}
+
+impl Model for SnapshotText {
+    ghost use Rattle.std.specs.Prelude.{ℕ, List, Option, option_map, string_bytes};
+    ghost use Rattle.std.specs.Coded.{coded×, coded_ℕ, coded_list, coded_option};
+    ghost use Rattle.relay_view.specs.View.{View};
+    ghost use Rattle.relay_view.specs.contracts.slot.Slot as slot;
+
+    ghost Value = { Option (View × List ℕ) };
+
+    ghost coded = { coded_option (coded× (coded_list slot.the_row.coded) (coded_list coded_ℕ)) };
+
+    ghost view = { λ s. option_map (λ kept. (kept.view, string_bytes kept.text)) s.kept };
+}
+
+impl SnapshotText {
+    /// No text. Allocates nothing.
+    pub fn none() -> SnapshotText
+        ensures { result ≡ None }
+    {
+        SnapshotText {
+            written: None,
+            kept: None,
+        }
+    }
+
+    /// How many bytes the kept text has; 0 if none is kept. Allocates nothing.
+    pub fn bytes(&self) -> u64 {
+        match &self.kept {
+            Some(kept) => kept.text.len() as u64,
+            None => 0,
+        }
+    }
+
+    /// Drops the text if the request may change the room. Allocates nothing.
+    pub fn drop_over(&mut self, request: &Result<Request, Refusal>)
+        ensures { self.new ≡ kept_over request.now self.old }
+    {
+        if let Ok(Request::Edit { .. }) = request {
+            *self = SnapshotText::none();
+        }
+    }
+
+    /// Returns the text of the present snapshot of the room for the view: a copy of the one that is
+    /// kept, or a new one. Counts what that cost.
+    pub fn draw(
+        &mut self,
+        alloc: Global,
+        room: &Room,
+        view: &SharedView,
+        counts: &mut MessageCounts,
+    ) -> Result<String, AllocError>
+        requires kept { IsSnapshotText room.now self.old }
+        ensures text { IfOk result (λ text.
+            IsTextOf (string_bytes text) (snapshot_of room.now view.now)) }
+        ensures kept { IsSnapshotText room.now self.new }
+    {
+        if let Some(text) = self.kept_for(view) {
+            counts.count_cost(cost::drawing(text.len() as u64));
+            return String::from_str(alloc, text);
+        }
+        let text = write(alloc, room, view, counts)?;
+        self.note(alloc, view, text.as_str());
+        Ok(text)
+    }
+
+    /// The kept text, if it is of that view. Compares the views token by token.
+    fn kept_for(&self, view: &SharedView) -> Option<&str>
+        ensures { IfSome result (λ text. self.now ≡ Some (view.now, text.now)) }
+    {
+        let kept = self.kept.as_ref()?;
+        if kept.view.get().same(view.get()) {
+            Some(kept.text.as_str())
+        } else {
+            None
+        }
+    }
+
+    /// Notes that this text was written for the view. Keeps a copy if the one that was written
+    /// before was for an equal view, if it is not too long, and if there is memory for it.
+    fn note(&mut self, alloc: Global, view: &SharedView, text: &str)
+        ensures { (self.new ≡ self.old) ⊎ (self.new ≡ Some (view.now, text.now)) }
+    {
+        if !self.was_written_for(view) {
+            self.written = view.share().ok();
+        } else if text.len() as u64 <= MAX_KEPT_BYTES {
+            if let Ok(kept) = KeptText::new(alloc, view, text) {
+                self.kept = Some(kept);
+            }
+        }
+    }
+
+    /// Whether the text that was written last was for an equal view.
+    fn was_written_for(&self, view: &SharedView) -> bool {
+        match &self.written {
+            Some(written) => written.get().same(view.get()),
+            None => false,
+        }
+    }
+}
+
+impl KeptText {
+    /// A copy of the text, for the view.
+    fn new(alloc: Global, view: &SharedView, text: &str) -> Result<KeptText, AllocError>
+        ensures view { IfOk result (λ kept. kept.view ≡ view.now) }
+        ensures text { IfOk result (λ kept. string_bytes kept.text ≡ text.now) }
+    {
+        Ok(KeptText {
+            view: view.share()?,
+            text: String::from_str(alloc, text)?,
+        })
+    }
+}
+
+/// Writes the text of the present snapshot of the room for the view, and counts the cost.
+fn write(
+    alloc: Global,
+    room: &Room,
+    view: &SharedView,
+    counts: &mut MessageCounts,
+) -> Result<String, AllocError>
+    ensures { IfOk result (λ text. IsTextOf (string_bytes text) (snapshot_of room.now view.now)) }
+{
+    let text = shown_text(alloc, room.revision(), view.get(), room.document())?;
+    counts.count_cost(cost::showing(text.as_str()));
+    Ok(text)
+}
