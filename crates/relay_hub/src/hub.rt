@@ -289,9 +289,9 @@ impl Hub {
     }
 
     /// Removes and returns the text at the front of a session's outbox: replies first, then
-    /// patches, then the due snapshot, which is made from the present document. `None` if nothing
-    /// waits. `NoSession`: it is not open. `NoMemory` comes only if something waits, and leaves the
-    /// message in the outbox.
+    /// patches, then the due snapshot, which is made from the present document. `None` exactly if
+    /// nothing waits. `NoSession`: it is not open. `NoMemory` comes only if something waits, and
+    /// leaves the message in the outbox.
     ///
     /// ```
     /// let mut hub = Hub::new(alloc, 1, 1, 64, 32).ok()?;
@@ -304,6 +304,8 @@ impl Hub {
         ensures step { StepIf self.old (Draw session) (drawing result) self.new }
         ensures stands { (b : HubConfig) (E : Log) → StandsFor b E self.old →
             StandsFor b (logged E (Draw session) (drawing result)) self.new }
+        ensures empty { result ≡ Ok None
+            → option_map waiting (session_of self.old session) ≡ Some 0 }
         ensures no_memory { IsErrOf result HubFault.NoMemory
             → IsSomeAnd (option_map waiting (session_of self.old session)) (λ n. 0 < n) }
     {

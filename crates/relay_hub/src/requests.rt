@@ -1,6 +1,6 @@
 //! The work of the hub's calls, on a room, its open sessions and the index of the views that they
 //! watch.
-ghost use Rattle.std.specs.Prelude.{◌≡◌, ◌<◌, ◌==◌, Some, None, IfOk, OnOk, OnErr, IsErrOf, IsSome, IsSomeAnd, option_map, nat_le, filter, not};
+ghost use Rattle.std.specs.Prelude.{◌≡◌, ◌<◌, ◌==◌, Some, None, Ok, IfOk, OnOk, OnErr, IsErrOf, IsSome, IsSomeAnd, option_map, nat_le, filter, not};
 ghost use Rattle.std.specs.FinMap as map;
 ghost use Rattle.relay_room.specs.Edit.{edited};
 ghost use Rattle.relay_room.specs.Room.{revision};
@@ -419,6 +419,8 @@ pub fn draw(
     ensures step { DrawsIf number (drawing result) (room_sessions room.now sessions.old)
         (room_sessions room.now sessions.new) }
     ensures numbers { numbers sessions.new ≡ numbers sessions.old }
+    ensures empty { result ≡ Ok None
+        → option_map waiting (session_in sessions.old number) ≡ Some 0 }
     ensures no_memory { IsErrOf result HubFault.NoMemory
         → IsSomeAnd (option_map waiting (session_in sessions.old number)) (λ n. 0 < n) }
     ensures kept { IsSnapshotText room.now snapshot.new }

@@ -52,7 +52,7 @@ impl Model for RoomSessions {
 }
 
 impl RoomSessions {
-    ghost use Rattle.std.specs.Prelude.{◌≡◌, ◌≢◌, ◌<◌, ◌≤◌, ◌+◌, true, [], ◌∷◌, Some, None, IfOk, IfErr, OnOk, OnErr, IsErrOf, IsSome, IsSomeAnd, length, option_map};
+    ghost use Rattle.std.specs.Prelude.{◌≡◌, ◌≢◌, ◌<◌, ◌≤◌, ◌+◌, true, [], ◌∷◌, Some, None, Ok, IfOk, IfErr, OnOk, OnErr, IsErrOf, IsSome, IsSomeAnd, length, option_map};
     ghost use Rattle.relay_history.specs.declared.history.TheConstants.{MAX_REVISIONS};
     ghost use Rattle.relay_room.specs.Room.{begun, revision};
     ghost use Rattle.relay_tree.specs.Document.{null};
@@ -305,6 +305,8 @@ impl RoomSessions {
     ) -> Result<Option<String>, HubFault>
         requires { IsSome (session_in self.old.sessions number) }
         ensures step { DrawsIf number (drawing result) self.old self.new }
+        ensures empty { result ≡ Ok None
+            → option_map waiting (session_in self.old.sessions number) ≡ Some 0 }
         ensures no_memory { IsErrOf result HubFault.NoMemory
             → IsSomeAnd (option_map waiting (session_in self.old.sessions number)) (λ n. 0 < n) }
     {

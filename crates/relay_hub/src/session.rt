@@ -66,7 +66,7 @@ impl Model for Session {
 }
 
 impl Session {
-    ghost use Rattle.std.specs.Prelude.{◌≡◌, ◌<◌, ◌≤◌, ℕ, nat_le, length, option_map, IfOk, OnOk, OnErr, IsSome, string_bytes};
+    ghost use Rattle.std.specs.Prelude.{◌≡◌, ◌<◌, ◌≤◌, ℕ, nat_le, length, option_map, Ok, None, IfOk, OnOk, OnErr, IsSome, string_bytes};
     ghost use Rattle.relay_outbox.specs.declared.outbox.TheConstants.{MAX_REPLIES, MAX_PATCHES};
     ghost use Rattle.relay_room.specs.declared.catch_up.CatchUp.{CatchUp};
     ghost use Rattle.relay_hub.specs.Load.{IsLoad};
@@ -289,6 +289,7 @@ impl Session {
             ≡ option_map message_text (front_message room.now self.old)) }
         ensures ok { OnOk result (self.new ≡ drawn self.old) }
         ensures err { OnErr result (self.new ≡ self.old) }
+        ensures empty { result ≡ Ok None → waiting self.old ≡ 0 }
         ensures reads_back { OnOk result (ReadsBack (front_message room.now self.old)) }
         ensures no_memory { OnErr result (0 < waiting self.old) }
         ensures kept { IsSnapshotText room.now snapshot.new }
@@ -310,6 +311,7 @@ impl Session {
         requires kept { IsSnapshotText room.now snapshot.old }
         ensures text { IfOk result (λ text. option_map string_bytes text
             ≡ option_map message_text (front_message room.now self.now)) }
+        ensures empty { result ≡ Ok None → waiting self.now ≡ 0 }
         ensures reads_back { OnOk result (ReadsBack (front_message room.now self.now)) }
         ensures no_memory { OnErr result (0 < waiting self.now) }
         ensures kept { IsSnapshotText room.now snapshot.new }

@@ -68,5 +68,6 @@ returns c =
           λ b E h.
           call_stands b E old (bounded c) (Draw c.args.session) (drawing c.draw-text.result) h
           (step c);
+      empty = λ e. rw is (c.draw-text.ensures.empty e);
       no_memory = λ e. rw is (c.draw-text.ensures.no_memory e);
     })
