@@ -10,6 +10,7 @@ use Rattle.relay_link.specs.Ends.{settled}
 use Rattle.relay_link.specs.Frames.{Frames}
 use Rattle.relay_link.specs.Stream.{written}
 use Rattle.relay_link.specs.declared.corked_writer.CorkedWriter.{CorkedWriter}
+use Rattle.relay_link.specs.declared.draw_stop.DrawStop.{DrawStop}
 use Rattle.relay_link.specs.declared.end_cause.EndCause.TheVariants.{Binary}
 use Rattle.relay_link.specs.declared.opened.Ending.{Ending}
 use Rattle.relay_link.specs.declared.opened.Ending.TheVariants as ending
@@ -47,7 +48,7 @@ module _ {S : Type 0} (contents : S → Option (List ℕ)) where
   answered_and_sent (Ok u) a b closed sent = tt
   answered_and_sent (Err e) a b closed sent = λ is. closed_then _ a b (closed is) sent
 
-  pub answered_settled : (turned : Result (Unit {0}) Ending) (socket : Socket (CorkedWriter S))
+  pub answered_settled : (turned : Result DrawStop Ending) (socket : Socket (CorkedWriter S))
       (s : ℕ) → BinaryAnswered contents turned socket
       → BinaryAnsweredIn contents (settled turned socket s).state (settled turned socket s).cause
   answered_settled (Ok u) socket s closed = tt

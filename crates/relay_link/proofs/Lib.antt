@@ -7,5 +7,6 @@ pub mod Hearing
 pub mod Replying
 pub mod Terms
 pub mod Telling
+pub mod Stopping
 pub mod Visiting
 pub mod BinaryAnswered

@@ -190,7 +190,7 @@ module _ {S : Type 0} (remaining contents : S → Option (List ℕ)) where
       }
 
   -- what waited was sent, and what was told was sent or has to wait
-  pub talked : {E : Type 0} (result : Result (Unit {0}) E) (most : ℕ) (p q : Point)
+  pub talked : {A E : Type 0} (result : Result A E) (most : ℕ) (p q : Point)
       (a b c d : Socket (CorkedWriter S)) → Frames contents a b []
       → OnOk result (Exchanges remaining contents most p q b c) → Frames contents c d []
       → OnOk result (Talks remaining contents most p q a d)
@@ -211,7 +211,7 @@ module _ {S : Type 0} (remaining contents : S → Option (List ℕ)) where
 
   -- ---- a turn of a link
 
-  pub talked_into : {E : Type 0} (turned : Result (Unit {0}) E) (texts : ℕ) (p : Point)
+  pub talked_into : {A E : Type 0} (turned : Result A E) (texts : ℕ) (p : Point)
       (hub next : Hub) (events after : List Event) (s : ℕ) (a b : Socket (CorkedWriter S))
       (state : State S)
       → OnOk turned (Talks remaining contents texts p (at hub (Some s) events) a b)
@@ -231,7 +231,7 @@ module _ {S : Type 0} (remaining contents : S → Option (List ℕ)) where
   talked_into (Err e) texts p hub next events after s a b Gone talks stayed over = tt
 
   -- what was read and passed on: if the link is still open, its next turn reads on
-  pub reads_into : {E : Type 0} (turned : Result (Unit {0}) E) (most : ℕ) (p : Point)
+  pub reads_into : {A E : Type 0} (turned : Result A E) (most : ℕ) (p : Point)
       (hub next : Hub) (events after : List Event) (s : ℕ) (a b : Socket (CorkedWriter S))
       (state : State S)
       → OnOk turned (Talks remaining contents most p (at hub (Some s) events) a b)

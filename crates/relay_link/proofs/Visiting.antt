@@ -8,7 +8,7 @@ use Rattle.relay_hub.specs.Step.{Step}
 use Rattle.relay_hub.specs.declared.event.Answer.{Answer}
 use Rattle.relay_hub.specs.declared.event.Answer.TheVariants.{Opened, NotOpened}
 use Rattle.relay_hub.specs.declared.event.Event.{Event}
-use Rattle.relay_hub.specs.declared.event.Event.TheVariants.{Open, Receive, Draw}
+use Rattle.relay_hub.specs.declared.event.Event.TheVariants.{Open, Receive}
 use Rattle.relay_hub.specs.declared.event.Opening.{Opening}
 use Rattle.relay_hub.specs.declared.fault.OpenFault.{OpenFault}
 use Rattle.relay_hub.specs.declared.fault.OpenFault.TheVariants as fault
@@ -109,13 +109,6 @@ pub drew_on : (texts : List (List ℕ)) (p q r : Point) → Drew texts p q → D
     → Drew texts p r
 drew_on texts p q r f g =
     subst (λ t. Drew t p r) (append-nil texts) (drew_then texts [] p q r f g)
-
--- one draw more
-pub draws_one : (before mid after : List Event) (s n : ℕ) → after ≡ mid ++ Draw s ∷ []
-    → draws mid ≡ draws before + n → draws after ≡ draws before + (n + 1)
-draws_one before mid after s n m count =
-    let one : draws after ≡ draws mid + 1 = ap draws m ∙ sum_by-append _ mid (Draw s ∷ []) in
-    omega (arith, one, count)
 
 -- ---- what a visit comes to
 

@@ -8,6 +8,7 @@ use Rattle.websocket.specs.declared.error.ProtocolError.TheVariants.{ResetWithou
 use Rattle.relay_link.specs.declared.end_cause.EndCause.{EndCause}
 use Rattle.relay_link.specs.declared.end_cause.EndCause.TheVariants as cause
 use Rattle.relay_link.specs.declared.closing.TheConstants.{MAX_TURNS}
+use Rattle.relay_link.specs.declared.draw_stop.DrawStop.{DrawStop}
 use Rattle.relay_link.specs.declared.opened.Ending.{Ending}
 use Rattle.relay_link.specs.declared.opened.Ending.TheVariants as ending
 use Rattle.relay_link.specs.declared.state.State.{State}
@@ -42,13 +43,15 @@ abbrev pub cause_of : Ending → EndCause
 cause_of (ending.Closing given) = given
 cause_of (ending.Gone given) = given
 
--- the state of an open link whose turn came to this, and the cause if it is no longer open
-abbrev pub settled : {S : Type 0} → Result (Unit {0}) Ending → Socket (CorkedWriter S) → ℕ
+-- the state of an open link whose turn came to this, why it drew no more if it is still open, and
+-- the cause if it is not
+abbrev pub settled : {S : Type 0} → Result DrawStop Ending → Socket (CorkedWriter S) → ℕ
     → Transition S
-settled (Ok u) socket s = record { state = Open socket s; cause = None }
+settled (Ok stop) socket s = record { state = Open socket s; cause = None; stop = Some stop }
 settled (Err (ending.Closing given)) socket s =
-    record { state = Closing socket MAX_TURNS; cause = Some given }
-settled (Err (ending.Gone given)) socket s = record { state = Gone; cause = Some given }
+    record { state = Closing socket MAX_TURNS; cause = Some given; stop = None }
+settled (Err (ending.Gone given)) socket s =
+    record { state = Gone; cause = Some given; stop = None }
 
 -- in how many turns, with this one, the other side may still answer a close; one more than all
 -- before the close is sent

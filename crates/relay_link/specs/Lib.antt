@@ -11,6 +11,7 @@ pub mod Terms
 pub mod Hears
 pub mod Frames
 pub mod Tells
+pub mod Stops
 pub mod Replies
 pub mod BinaryAnswered
 pub mod Visits

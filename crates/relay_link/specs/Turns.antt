@@ -8,6 +8,7 @@ use Rattle.relay_link.specs.Asks.{asked_by, Receives}
 use Rattle.relay_link.specs.Ends.{turns_left}
 use Rattle.relay_link.specs.Follows.{Follows, at}
 use Rattle.relay_link.specs.Hears.{PassesTexts}
+use Rattle.relay_link.specs.Stops.{StopsIfOpen}
 use Rattle.relay_link.specs.Stage.{stage_of, session_of, leaves, is_over}
 use Rattle.relay_link.specs.declared.end_cause.EndCause.TheVariants.{Silent}
 use Rattle.relay_link.specs.declared.link.TheConstants.{MAX_DRAWS}
@@ -33,6 +34,9 @@ pub record Turns {S : Type 0} (remaining : S → Option (List ℕ)) (texts most 
   -- not hear its session, and the next turn reads on where this one stopped
   pub passes : PassesTexts remaining texts hub old new [] turn.events.items
   pub drew : draws turn.events.items ≤ min most MAX_DRAWS
+  -- an open link draws until nothing waits for its session, it made as many draws as it may, its
+  -- stream takes no output, or memory is refused
+  pub stop : StopsIfOpen old new turn.stop (min most MAX_DRAWS) next [] turn.events.items
   -- a session that the link no longer has was closed
   pub closed : (s : ℕ) → session_of old ≡ Some s → session_of new ≡ None
       → Contains turn.events.items (Close s)

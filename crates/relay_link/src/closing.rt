@@ -24,6 +24,7 @@ pub(crate) fn turn<S: Read + Write + Drop>(mut socket: Socket<S>, turns: u64) ->
     ensures forward { IsForward Closing (stage_of result.state) }
     ensures serving { IsServing result.state }
     ensures silent { result.cause ≡ Some Silent → turns ≤ 1 }
+    ensures stop { result.stop ≡ None }
     ensures patient { stage_of result.state ≡ Closing → turns ≤ turns_left result.state + 1 }
 {
     socket.get_ref().begin_poll();

@@ -1,7 +1,7 @@
 //! A stream with buffered output that can be corked.
 ghost use Rattle.std.specs.Prelude.{◌≡◌, IfOk, ◌&&◌, ◌==◌, not, length};
 ghost use Rattle.std.specs.Io.Buffered.{writer_buffer, writer_inner};
-ghost use Rattle.relay_link.specs.Stream.{stream_of, written};
+ghost use Rattle.relay_link.specs.Stream.{stream_of, is_blocked, written};
 
 use crate::non_blocking::NonBlocking;
 use std::alloc::{AllocError, Global};
@@ -119,6 +119,13 @@ impl<S: Write + Drop> CorkedWriter<S> {
         ensures { result ≡ self.now.holds && not (length (writer_buffer self.now.writer) == 0) }
     {
         self.holds && self.has_output()
+    }
+
+    /// Whether the stream's last write or flush failed, so that output may be pending.
+    pub(crate) fn is_blocked(&self) -> bool
+        ensures { result ≡ is_blocked self.now }
+    {
+        self.writer.get_ref().is_blocked()
     }
 
     /// Whether a read gave as many bytes as it asked for.

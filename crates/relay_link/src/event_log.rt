@@ -19,8 +19,6 @@ pub(crate) struct EventLog {
     place: Cell<Option<usize>>,
     /// The room in which a client may not enter, if it asked for one.
     turned_away: Option<String>,
-    /// Whether memory was refused for a text that was to be drawn.
-    lacks_memory: bool,
 }
 
 impl Model for EventLog {
@@ -49,7 +47,6 @@ impl EventLog {
             fault: Cell::new(None),
             place: Cell::new(None),
             turned_away: None,
-            lacks_memory: false,
         })
     }
 
@@ -109,18 +106,6 @@ impl EventLog {
         ensures { self.new ≡ self.old }
     {
         self.turned_away.take()
-    }
-
-    /// Notes that memory was refused for a text that was to be drawn. Allocates nothing.
-    pub(crate) fn note_shortage(&mut self)
-        ensures { self.new ≡ self.old }
-    {
-        self.lacks_memory = true;
-    }
-
-    /// Whether memory was refused for a text that was to be drawn.
-    pub(crate) fn lacks_memory(&self) -> bool {
-        self.lacks_memory
     }
 
     pub(crate) fn into_events(self) -> Vec<Event>

@@ -1,12 +1,13 @@
 //! The hub calls that a link makes, each recorded as an event.
-ghost use Rattle.std.specs.Prelude.{◌≡◌, ◌<◌, [], ◌∷◌, ◌++◌, length, is_some, Some, None, option_map, option_to_list, string_bytes, IfOk, OnOk, OnErr};
+ghost use Rattle.std.specs.Prelude.{◌≡◌, ◌+◌, ◌<◌, [], ◌∷◌, ◌++◌, length, is_some, Some, None, option_map, option_to_list, string_bytes, IfOk, OnOk, OnErr};
 ghost use Rattle.relay_hub.specs.Call.{opening};
 ghost use Rattle.relay_link.specs.Follows.{Follows, no_room, is_room, at, given, closing_of};
 ghost use Rattle.relay_link.specs.Hears.{Passes};
+ghost use Rattle.relay_link.specs.Stops.{NothingWaits, SomethingWaits};
 ghost use Rattle.relay_link.specs.Tells.{Drew};
 ghost use Rattle.relay_link.specs.Visits.{Opens, entered_as};
 ghost use Rattle.relay_hub.specs.declared.event.Event.TheVariants.{Receive, Draw, Close};
-ghost use Rattle.relay_link.specs.Adds.{Adds};
+ghost use Rattle.relay_link.specs.Adds.{Adds, draws};
 ghost use Rattle.relay_link.specs.declared.event_log.TheConstants.{MAX_EVENTS};
 
 use crate::event_log::EventLog;
@@ -102,8 +103,8 @@ pub(crate) fn receive(
 }
 
 /// Draws a text from the outbox of the link's session. `None` if there is none. After `AllocError`
-/// nothing has changed.
-#[tactic(auto, using(crate::proofs::Hearing::passes_same, crate::proofs::Hearing::passes_none))]
+/// nothing has changed, and a message waits.
+#[tactic(auto, using(crate::proofs::Hearing::passes_same, crate::proofs::Hearing::passes_none, crate::proofs::Stopping::draws_one))]
 pub(crate) fn draw(
     alloc: Global,
     hub: &mut Hub,
@@ -118,7 +119,10 @@ pub(crate) fn draw(
         (at hub.new (Some session) events.new)) }
     ensures drew_none { OnErr result (Drew [] (at hub.old (Some session) events.old)
         (at hub.new (Some session) events.new)) }
+    ensures empty { IfOk result (λ text. text ≡ None → NothingWaits hub.new session) }
+    ensures waits { OnErr result (SomethingWaits hub.new session) }
     ensures event { OnOk result (events.new ≡ events.old ++ Draw session ∷ []) }
+    ensures count { OnOk result (draws events.new ≡ draws events.old + 1) }
     ensures passes { Passes events.old events.new [] }
     ensures adds { Adds 1 0 1 events.old events.new }
 {

@@ -61,6 +61,7 @@ pub(crate) fn listen<S: Read + Write + Drop>(
     ensures serving { IsServing result.state }
     ensures cause { is_some result.cause ≡ leaves Head (stage_of result.state) }
     ensures prompt { result.cause ≢ Some Silent }
+    ensures stop { result.stop ≡ None }
     ensures patient { MAX_TURNS ≤ turns_left result.state }
 {
     stream.begin_poll();
@@ -125,6 +126,7 @@ fn admit<S: Read + Write + Drop>(
     ensures serving { IsServing result.state }
     ensures cause { is_some result.cause ≡ leaves Head (stage_of result.state) }
     ensures prompt { result.cause ≢ Some Silent }
+    ensures stop { result.stop ≡ None }
     ensures patient { MAX_TURNS ≤ turns_left result.state }
 {
     match events::open(alloc, hub, room, access, events) {
@@ -163,6 +165,7 @@ fn turn_away<S: Read + Write + Drop>(
     ensures serving { IsServing result.state }
     ensures cause { is_some result.cause ≡ leaves Head (stage_of result.state) }
     ensures prompt { result.cause ≢ Some Silent }
+    ensures stop { result.stop ≡ None }
     ensures patient { MAX_TURNS ≤ turns_left result.state }
 {
     events.note_turned_away(room);
@@ -192,6 +195,7 @@ fn answer<S: Read + Write + Drop>(
     ensures serving { IsServing result.state }
     ensures cause { is_some result.cause ≡ leaves Head (stage_of result.state) }
     ensures prompt { result.cause ≢ Some Silent }
+    ensures stop { result.stop ≡ None }
     ensures patient { MAX_TURNS ≤ turns_left result.state }
 {
     reply(alloc, stream, HandshakeReply { rest, verdict }, hub, events)
@@ -218,6 +222,7 @@ pub(crate) fn reply<S: Read + Write + Drop>(
     ensures serving { IsServing result.state }
     ensures cause { is_some result.cause ≡ leaves Head (stage_of result.state) }
     ensures prompt { result.cause ≢ Some Silent }
+    ensures stop { result.stop ≡ None }
     ensures patient { MAX_TURNS ≤ turns_left result.state }
 {
     match reply.send(&mut stream) {

@@ -3,9 +3,10 @@
 //!
 //! The promise: a turn changes the hub by exactly the events that it reports, in their order, and
 //! each of them names the link's own session or opens it. If it leaves the link open, each text
-//! that it drew is framed whole and in order, and a turn that reads nothing frames nothing else. A
-//! link that is closing or gone has no session. What the other side does can end no link but its
-//! own.
+//! that it drew is framed whole and in order, and a turn that reads nothing frames nothing else. If
+//! it found the link open too, it drew until nothing waited, it had drawn as many as it may, the
+//! stream took no output, or memory was refused. A link that is closing or gone has no session. What
+//! the other side does can end no link but its own.
 //!
 //! No call blocks. A stream that returns `WouldBlock`, or is interrupted, ends the turn early and
 //! is tried again in the next.
@@ -20,6 +21,7 @@
 
 mod closing;
 mod corked_writer;
+mod draw_stop;
 mod end_cause;
 mod entrance;
 mod entrance_fault;
@@ -39,6 +41,7 @@ mod turn_phase;
 mod visit;
 mod visit_outcome;
 
+pub use draw_stop::DrawStop;
 pub use end_cause::EndCause;
 pub use entrance::Entrance;
 pub use entrance_fault::EntranceFault;

@@ -9,6 +9,7 @@ ghost use Rattle.relay_link.specs.Follows.{Follows, no_room, at, closing_of};
 ghost use Rattle.relay_link.specs.Hears.{PassesTexts};
 ghost use Rattle.relay_link.specs.Replies.{Replies};
 ghost use Rattle.relay_link.specs.Stage.{stage_of, session_of, has_corked_output, is_idle, leaves, ended, IsForward};
+ghost use Rattle.relay_link.specs.Stops.{StopsIfOpen};
 ghost use Rattle.relay_link.specs.Tells.{IsServing, Talks, WhileOpen, Told, Answered};
 ghost use Rattle.relay_link.specs.Turns.{Turns};
 ghost use Rattle.relay_link.specs.declared.end_cause.EndCause.TheVariants.{Silent};
@@ -134,7 +135,8 @@ impl<S: Read + Write + Drop> Link<S> {
     ///   out, it is Gone at once.
     /// - Gone: the turn does nothing.
     ///
-    /// The turn has a cause exactly if it ended Head without Open, left Open, or ended Closing.
+    /// The turn has a cause exactly if it ended Head without Open, left Open, or ended Closing. It
+    /// has a [`DrawStop`](crate::DrawStop) exactly if it found the link Open and left it so.
     /// [`EndCause::Stream`] comes only if in this very turn a call on the stream failed or a write
     /// accepted no byte.
     ///
@@ -267,10 +269,10 @@ impl<S: Read + Write + Drop> Link<S> {
             cost: 0,
             fault: None,
             turned_away: None,
-            lacks_memory: false,
             events: events.into_events(),
             stage: Stage::Gone,
             cause,
+            stop: None,
         })
     }
 
@@ -311,10 +313,10 @@ impl<S: Read + Write + Drop> Link<S> {
             cost: hub.cost().saturating_sub(before),
             fault: events.fault(),
             turned_away: events.take_turned_away(),
-            lacks_memory: events.lacks_memory(),
             events: events.into_events(),
             stage: self.stage(),
             cause: next.cause,
+            stop: next.stop,
         })
     }
 }
@@ -339,6 +341,7 @@ fn advance<S: Read + Write + Drop>(
     ensures received { Receives S.remaining state result.state }
     ensures talks { WhileOpen (Talks S.remaining S.contents (texts_of phase)) hub.old events.old
         state hub.new events.new result.state }
+    ensures stop { StopsIfOpen state result.state result.stop draws hub.new events.old events.new }
     ensures serving { IsServing result.state }
     ensures entrance { Follows (Within entrance.now) (at hub.old (session_of state) events.old)
         (at hub.new (session_of result.state) events.new) }

@@ -24,6 +24,8 @@ pub(crate) struct NonBlocking<S> {
     wants_poll: bool,
     /// Whether a write failed, or accepted no byte.
     broken: bool,
+    /// Whether the last write or flush failed, be it for want of capacity.
+    blocked: bool,
 }
 
 impl<S> NonBlocking<S> {
@@ -40,6 +42,7 @@ impl<S> NonBlocking<S> {
             untaken: 0,
             wants_poll: false,
             broken: false,
+            blocked: false,
         }
     }
 
@@ -53,7 +56,8 @@ impl<S> NonBlocking<S> {
 
     /// Asks for another turn.
     pub(crate) fn request_poll(&mut self)
-        ensures { self.new.stream ≡ self.old.stream }
+        ensures stream { self.new.stream ≡ self.old.stream }
+        ensures blocked { self.new.blocked ≡ self.old.blocked }
     {
         self.wants_poll = true;
     }
@@ -83,11 +87,30 @@ impl<S> NonBlocking<S> {
         self.filled
     }
 
+    /// Whether the last write or flush failed, so that output may be pending.
+    pub(crate) fn is_blocked(&self) -> bool
+        ensures { result ≡ self.now.blocked }
+    {
+        self.blocked
+    }
+
+    /// The result of a write or a flush, of which it notes whether it failed.
+    fn noted_output<T>(&mut self, called: io::Result<T>) -> io::Result<T>
+        ensures ok { IfOk result (λ value. called ≡ Ok value) }
+        ensures err { is_err result ≡ is_err called }
+        ensures stream { self.new.stream ≡ self.old.stream }
+        ensures blocked { self.new.blocked ≡ is_err called }
+    {
+        self.blocked = called.is_err();
+        self.noted(called)
+    }
+
     /// The result of a call. An interrupted call asks for another turn, and becomes `WouldBlock`.
     fn noted<T>(&mut self, called: io::Result<T>) -> io::Result<T>
         ensures ok { IfOk result (λ value. called ≡ Ok value) }
         ensures err { is_err result ≡ is_err called }
         ensures stream { self.new.stream ≡ self.old.stream }
+        ensures blocked { self.new.blocked ≡ self.old.blocked }
     {
         match called {
             Err(error) if error.kind() == ErrorKind::Interrupted => {
@@ -129,12 +152,12 @@ impl<S: Write> Write for NonBlocking<S> {
         }
         let written = self.stream.write(buf);
         self.broken = is_break(&written);
-        self.noted(written)
+        self.noted_output(written)
     }
 
     fn flush(&mut self) -> io::Result<()> {
         let flushed = self.stream.flush();
-        self.noted(flushed)
+        self.noted_output(flushed)
     }
 }
 

@@ -4,6 +4,7 @@ ghost use Rattle.relay_link.specs.Adds.{Adds, texts_of};
 ghost use Rattle.relay_link.specs.BinaryAnswered.{BinaryAnswered, BinaryAnsweredIn};
 ghost use Rattle.relay_link.specs.Ends.{IsPrompt, cause_of, settled, turns_left};
 ghost use Rattle.relay_link.specs.Follows.{Follows, no_room, at, given};
+ghost use Rattle.relay_link.specs.Stops.{Stops, StopsIn};
 ghost use Rattle.relay_link.specs.Stage.{leaves, stage_of, session_of, is_over, IsForward};
 ghost use Rattle.relay_link.specs.Hears.{allowed_reads, Finds, Passes, PassesOn, SendsAndPassesOn, ReadsTexts};
 ghost use Rattle.relay_link.specs.Tells.{Drew, Hearing, Tells, Exchanges, Talks, IfOpen, IsServing};
@@ -13,6 +14,7 @@ ghost use Rattle.relay_link.specs.declared.closing.TheConstants.{MAX_TURNS};
 ghost use Rattle.relay_link.specs.declared.event_log.TheConstants.{MAX_EVENTS};
 ghost use Rattle.relay_link.specs.declared.stage.Stage.TheVariants.{Open};
 
+use crate::draw_stop::DrawStop;
 use crate::end_cause::EndCause;
 use crate::event_log::EventLog;
 use crate::events;
@@ -44,7 +46,7 @@ impl From<EndCause> for Ending {
 }
 
 /// A turn of an open link.
-#[tactic(auto, using(crate::proofs::Following::follows_same, crate::proofs::Following::follows_then, crate::proofs::Telling::serves_on, crate::proofs::BinaryAnswered::answered_settled))]
+#[tactic(auto, using(crate::proofs::Following::follows_same, crate::proofs::Following::follows_then, crate::proofs::Telling::serves_on, crate::proofs::BinaryAnswered::answered_settled, crate::proofs::Stopping::stops_into))]
 pub(crate) fn turn<S: Read + Write + Drop>(
     alloc: Global,
     mut socket: Socket<S>,
@@ -60,6 +62,7 @@ pub(crate) fn turn<S: Read + Write + Drop>(
         (at hub.new (session_of result.state) events.new) }
     ensures talks { IfOpen (Talks S.remaining S.contents (texts_of phase))
         (at hub.old (Some session) events.old) socket hub.new events.new result.state }
+    ensures stop { StopsIn result.state result.stop draws hub.new events.old events.new }
     ensures binary { BinaryAnsweredIn S.contents result.state result.cause }
     ensures serving { IsServing result.state }
     ensures passes { ReadsTexts S.remaining (allowed_reads hub.old (Some session) (texts_of phase))
@@ -81,7 +84,7 @@ pub(crate) fn turn<S: Read + Write + Drop>(
 /// The link after a turn: still open, or its session is closed.
 #[tactic(auto, using(crate::proofs::Following::follows_same, crate::proofs::Following::follows_then, crate::proofs::Hearing::passes_same))]
 fn finish<S: Read + Write + Drop>(
-    turned: Result<(), Ending>,
+    turned: Result<DrawStop, Ending>,
     socket: Socket<S>,
     session: u64,
     hub: &mut Hub,
@@ -103,7 +106,7 @@ fn finish<S: Read + Write + Drop>(
     ensures patient { MAX_TURNS ≤ turns_left result.state }
 {
     match turned {
-        Ok(()) => Transition::on(State::Open { socket, session }),
+        Ok(stop) => Transition::open(socket, session, stop),
         Err(ending) => {
             events::close(hub, session, events);
             match ending {
@@ -115,7 +118,7 @@ fn finish<S: Read + Write + Drop>(
 }
 
 /// Sends pending output that is not corked. When none is left, the link may hear a text and draws
-/// messages; its output is sent, or corked until a write turn.
+/// messages; its output is sent, or corked until a write turn. Returns why it drew no more.
 #[tactic(auto, using(crate::proofs::Following::follows_same, crate::proofs::Following::follows_then, crate::proofs::Hearing::sends_none, crate::proofs::Hearing::sends_and_passes, crate::proofs::Telling::talked_none, crate::proofs::Telling::talked, crate::proofs::BinaryAnswered::answered_and_sent))]
 fn serve<S: Read + Write + Drop>(
     alloc: Global,
@@ -125,10 +128,12 @@ fn serve<S: Read + Write + Drop>(
     draws: u64,
     hub: &mut Hub,
     events: &mut EventLog,
-) -> Result<(), Ending>
+) -> Result<DrawStop, Ending>
     requires { length events.old + draws + 1 ≤ MAX_EVENTS }
     ensures follows { Follows no_room (at hub.old (Some session) events.old)
         (at hub.new (Some session) events.new) }
+    ensures stop { IfOk result (λ stop.
+        Stops stop draws session hub.new events.old events.new socket.new) }
     ensures talks { OnOk result (Talks S.remaining S.contents (texts_of phase)
         (at hub.old (Some session) events.old) (at hub.new (Some session) events.new)
         socket.old socket.new) }
@@ -139,7 +144,7 @@ fn serve<S: Read + Write + Drop>(
     ensures prompt { IfErr result (λ ending. IsPrompt (cause_of ending)) }
 {
     if !flush(socket)? {
-        return Ok(());
+        return Ok(DrawStop::Pending);
     }
     let exchanged = hear_and_draw(alloc, socket, session, phase, draws, hub, events);
     // A link that ends still sends the messages that were framed before. If it is gone already, it
@@ -147,6 +152,10 @@ fn serve<S: Read + Write + Drop>(
     socket
         .get_ref()
         .hold(phase == TurnPhase::Read && exchanged.is_ok());
+    // The stream has just taken no output, and is not asked again.
+    if matches!(exchanged, Ok(DrawStop::Pending)) {
+        return exchanged;
+    }
     let sent = flush(socket);
     if !matches!(exchanged, Err(Ending::Gone(_))) {
         sent?;
@@ -154,7 +163,7 @@ fn serve<S: Read + Write + Drop>(
     exchanged
 }
 
-/// Hears a text, if it may, then draws messages and frames them.
+/// Hears a text, if it may, then draws messages and frames them. Returns why it drew no more.
 #[tactic(auto, using(crate::proofs::Following::follows_same, crate::proofs::Following::follows_then, crate::proofs::Hearing::passes_on_none, crate::proofs::Hearing::passes_on_heard, crate::proofs::Telling::exchanged))]
 fn hear_and_draw<S: Read + Write + Drop>(
     alloc: Global,
@@ -164,10 +173,12 @@ fn hear_and_draw<S: Read + Write + Drop>(
     draws: u64,
     hub: &mut Hub,
     events: &mut EventLog,
-) -> Result<(), Ending>
+) -> Result<DrawStop, Ending>
     requires { length events.old + draws + 1 ≤ MAX_EVENTS }
     ensures follows { Follows no_room (at hub.old (Some session) events.old)
         (at hub.new (Some session) events.new) }
+    ensures stop { IfOk result (λ stop.
+        Stops stop draws session hub.new events.old events.new socket.new) }
     ensures exchanges { OnOk result (Exchanges S.remaining S.contents (texts_of phase)
         (at hub.old (Some session) events.old) (at hub.new (Some session) events.new)
         socket.old socket.new) }
@@ -178,8 +189,8 @@ fn hear_and_draw<S: Read + Write + Drop>(
     ensures prompt { IfErr result (λ ending. IsPrompt (cause_of ending)) }
 {
     hear(alloc, socket, session, phase, hub, events)?;
-    draw_messages(alloc, socket, session, draws, hub, events)?;
-    Ok(())
+    let stop = draw_messages(alloc, socket, session, draws, hub, events)?;
+    Ok(stop)
 }
 
 /// Hears a text, if the phase reads and the hub may hear the session.
@@ -264,8 +275,8 @@ fn next_text<S: Read + Write + Drop>(socket: &mut Socket<S>) -> Result<Option<Te
     }
 }
 
-/// Draws up to `draws` messages and frames each, until output is pending. A draw that is out of
-/// memory ends the turn, and asks for another.
+/// Draws up to `draws` messages and frames each, until output may be pending. A draw that is out of
+/// memory ends the turn, and asks for another. Returns why it drew no more.
 #[tactic(auto, using(crate::proofs::Following::follows_same, crate::proofs::Following::follows_then, crate::proofs::Hearing::passes_same, crate::proofs::Hearing::passes_then, crate::proofs::Telling::tells_start, crate::proofs::Telling::tells_on, crate::proofs::Telling::tells_text))]
 fn draw_messages<S: Read + Write + Drop>(
     alloc: Global,
@@ -274,10 +285,12 @@ fn draw_messages<S: Read + Write + Drop>(
     draws: u64,
     hub: &mut Hub,
     events: &mut EventLog,
-) -> Result<(), EndCause>
+) -> Result<DrawStop, EndCause>
     requires { length events.old + draws ≤ MAX_EVENTS }
     ensures follows { Follows no_room (at hub.old (Some session) events.old)
         (at hub.new (Some session) events.new) }
+    ensures stop { IfOk result (λ stop.
+        Stops stop draws session hub.new events.old events.new socket.new) }
     ensures tells { OnOk result (Tells S.contents (at hub.old (Some session) events.old)
         (at hub.new (Some session) events.new) socket.old socket.new) }
     ensures passes { Passes events.old events.new [] }
@@ -287,19 +300,18 @@ fn draw_messages<S: Read + Write + Drop>(
     for _ in 0..draws {
         let text = match events::draw(alloc, hub, session, events) {
             Ok(Some(text)) => text,
-            Ok(None) => return Ok(()),
+            Ok(None) => return Ok(DrawStop::Empty),
             Err(_) => {
-                events.note_shortage();
                 socket.get_ref().request_poll();
-                return Ok(());
+                return Ok(DrawStop::Memory);
             }
         };
         let Ok(words) = Utf8Bytes::from_string(text) else {
             return Err(EndCause::Memory);
         };
         if !write(socket, words)? {
-            return Ok(());
+            return Ok(DrawStop::Pending);
         }
     }
-    Ok(())
+    Ok(DrawStop::Limit)
 }

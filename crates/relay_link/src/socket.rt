@@ -1,5 +1,5 @@
 //! The WebSocket of a link. No call blocks.
-ghost use Rattle.std.specs.Prelude.{◌≡◌, [], Some, IfOk, OnOk, IfErr};
+ghost use Rattle.std.specs.Prelude.{◌≡◌, [], Some, true, false, IfOk, OnOk, IfErr};
 ghost use Rattle.tungstenite.specs.Config.{HasLimits};
 ghost use Rattle.tungstenite.specs.Failure.{IsIo};
 ghost use Rattle.tungstenite.specs.Socket.{IsFresh, Writes};
@@ -9,7 +9,7 @@ ghost use Rattle.relay_link.specs.declared.end_cause.EndCause.TheVariants.{Strea
 ghost use Rattle.relay_link.specs.Frames.{Frames, text_frame};
 ghost use Rattle.relay_link.specs.Ends.{IsPrompt};
 ghost use Rattle.relay_link.specs.Hears.{ReadsOnce};
-ghost use Rattle.relay_link.specs.Stream.{written};
+ghost use Rattle.relay_link.specs.Stream.{is_blocked, written};
 ghost use Rattle.relay_link.specs.SocketError.{IsOfSocket};
 ghost use Rattle.relay_link.specs.Terms.{limits, Serves, KeepsTerms};
 
@@ -122,17 +122,19 @@ fn least_len(message: &Message) -> usize {
     payload.saturating_add(header)
 }
 
-/// Sends pending output. `false` if output is still pending; so for `write` and `close`.
+/// Sends pending output. `false` if the stream is blocked, so that output may still be pending.
 #[tactic(auto, using(crate::proofs::SocketErrors::flush_error, crate::proofs::Framing::flushed))]
 pub(crate) fn flush<S: Read + Write + Drop>(socket: &mut Socket<S>) -> Result<bool, EndCause>
     ensures prompt { IfErr result IsPrompt }
     ensures frames { Frames S.contents socket.old socket.new [] }
+    ensures waits { IfOk result (λ sent. sent ≡ false → is_blocked socket.new.stream ≡ true) }
 {
-    is_sent(socket.flush())
+    let sent = is_sent(socket.flush())?;
+    Ok(sent || !socket.get_ref().is_blocked())
 }
 
-/// Appends a text frame to the collected output. At 64 KiB all of it is sent; `false` if output is
-/// still pending then.
+/// Appends a text frame to the collected output. At 64 KiB all of it is sent; `false` if the stream
+/// is blocked then, so that output may still be pending.
 #[tactic(auto, using(crate::proofs::SocketErrors::write_error, crate::proofs::Framing::wrote_text))]
 pub(crate) fn write<S: Read + Write + Drop>(
     socket: &mut Socket<S>,
@@ -142,11 +144,13 @@ pub(crate) fn write<S: Read + Write + Drop>(
     ensures frames { OnOk result (Frames S.contents socket.old socket.new (text_frame words)) }
     ensures stopped { IfErr result (λ cause. cause ≡ Stream
         → Frames S.contents socket.old socket.new (text_frame words)) }
+    ensures waits { IfOk result (λ sent. sent ≡ false → is_blocked socket.new.stream ≡ true) }
 {
-    is_sent(socket.write(Message::Text(words)))
+    let sent = is_sent(socket.write(Message::Text(words)))?;
+    Ok(sent || !socket.get_ref().is_blocked())
 }
 
-/// Sends a close frame with an empty reason.
+/// Sends a close frame with an empty reason. `false` if output is still pending.
 #[tactic(auto, using(crate::proofs::SocketErrors::write_error, crate::proofs::BinaryAnswered::wrote_close))]
 pub(crate) fn close<S: Read + Write + Drop>(
     socket: &mut Socket<S>,

@@ -3,6 +3,7 @@ ghost use Rattle.std.specs.Prelude.{◌≡◌};
 ghost use Rattle.std.specs.List.{list_any};
 ghost use Rattle.relay_link.specs.Adds.{is_receive, is_draw};
 
+use crate::draw_stop::DrawStop;
 use crate::end_cause::EndCause;
 use crate::stage::Stage;
 use relay_hub::{Event, OpenFault};
@@ -17,16 +18,17 @@ pub struct Turn {
     /// The cause, if the turn ended the handshake without opening the link, ended an open link, or
     /// ended its closing.
     pub cause: Option<EndCause>,
+    /// Why it drew no more, if it found the link open and left it so.
+    pub stop: Option<DrawStop>,
     /// How many bytes the texts have that the turn drew.
     pub drawn: u64,
-    /// What the hub's work cost, in microseconds ([`relay_hub::Hub::cost`]).
+    /// What the hub's work costs, in microseconds: an estimate that counts the work
+    /// ([`relay_hub::Hub::cost`]). No clock is read.
     pub cost: u64,
     /// Why the hub opened no session, if the turn asked it for one.
     pub fault: Option<OpenFault>,
     /// The room of a valid handshake that was turned away, since clients may not enter there.
     pub turned_away: Option<String>,
-    /// Whether memory was refused for a text that was to be drawn, which still waits.
-    pub lacks_memory: bool,
 }
 
 impl Turn {

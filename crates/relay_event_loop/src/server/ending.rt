@@ -8,7 +8,7 @@ use super::Server;
 use super::queueing::uncount_writer;
 use crate::connection_log::{ConnectionLog, LogEntry};
 use relay_hub::{Event, OpenFault};
-use relay_link::{EndCause, Stage, Turn};
+use relay_link::{DrawStop, EndCause, Stage, Turn};
 use relay_operator::Readiness;
 use relay_schedule::LinkOutput;
 use std::alloc::Global;
@@ -280,7 +280,7 @@ impl<S: Read + Write + OpenStream + Drop, R: Readiness<S>> Server<S, R> {
 
 /// Whether memory was refused to a turn.
 fn lacked_memory(turn: &Turn) -> bool {
-    turn.lacks_memory
+    turn.stop == Some(DrawStop::Memory)
         || turn.cause == Some(EndCause::Memory)
         || turn.fault == Some(OpenFault::NoMemory)
 }

@@ -1,8 +1,9 @@
 -- A draw that has an answer is the one event, and gives the text of that answer.
-use Rattle.std.proofs.Common.{refl, option_map}
+use Rattle.std.proofs.Common.{refl, sym, option_map, ◌∙◌}
 use Rattle.std.specs.String.{string_bytes}
 use Rattle.relay_hub.specs.declared.event.Answer.TheVariants.{Drawn, NoSession}
 use Rattle.relay_link.proofs.Following.{follows_same, follows_one}
+use Rattle.relay_link.proofs.Stopping.{nothing_left, nobody_left}
 use Rattle.relay_link.proofs.Telling.{drew_same, drew_one, given_utf8}
 use Rattle.relay_link.proofs.events.draw.Goals as goal
 use Rattle.relay_link.proofs.events.draw.Goals.{in-Ok, in-Err-NoSession}
@@ -34,4 +35,14 @@ returns-clause-drew c = elim c.match-draw.branch [
   | in-Err-NoSession w ↦
       let step = rw w.in-Err-NoSession.field-0-is at w.in-Err-NoSession.ensures.step in
       rw w.text-is (drew_one _ _ _ _ _ _ NoSession c.note_draw.ensures refl step tt)
+]
+
+pub returns-clause-empty : goal.returns-clause-empty
+returns-clause-empty c = elim c.match-draw.branch [
+  | in-Ok w ↦ λ none.
+      nothing_left c.args.hub.now c.draw.new.self c.args.session
+      (rw (sym w.text-is ∙ none) at w.in-Ok.ensures.step)
+  | in-Err-NoSession w ↦ λ none.
+      let step = rw w.in-Err-NoSession.field-0-is at w.in-Err-NoSession.ensures.step in
+      nobody_left c.args.hub.now c.draw.new.self c.args.session step
 ]

@@ -1,6 +1,6 @@
--- Each pass so far added at most one event, a draw, and framed what it drew.
-use Rattle.std.proofs.Common.{Some, []}
-use Rattle.relay_link.specs.Adds.{Adds}
+-- Each pass so far added one event, a draw, and framed what it drew.
+use Rattle.std.proofs.Common.{◌≡◌, ◌+◌, Some, []}
+use Rattle.relay_link.specs.Adds.{Adds, draws}
 use Rattle.relay_link.specs.Follows.{Follows, no_room, at}
 use Rattle.relay_link.specs.Hears.{Passes}
 use Rattle.relay_link.specs.Tells.{Tells}
@@ -14,4 +14,5 @@ invariant-loop g l = record {
       (at l.hub (Some l.session) l.events) l.initial.socket l.socket;
   passes : Passes l.initial.events l.events [];
   adds : Adds l.counter 0 l.counter l.initial.events l.events;
+  each : draws l.events ≡ draws l.initial.events + l.counter;
 }

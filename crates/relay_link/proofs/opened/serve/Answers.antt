@@ -2,7 +2,7 @@
 -- what came of it.
 use Rattle.std.proofs.Common.{refl}
 use Rattle.relay_link.proofs.Hearing.{sends_none}
-use Rattle.relay_link.proofs.Telling.{talked_none, talked}
+use Rattle.relay_link.proofs.Telling.{frames_none, talked_none, talked}
 use Rattle.relay_link.proofs.opened.serve.Goals as goal
 
 pub returns-then-not-branch-clause-talks : goal.returns-then-not-branch-clause-talks
@@ -19,3 +19,8 @@ pub returns-in_ok-sent-clause-talks : goal.returns-in_ok-sent-clause-talks
 returns-in_ok-sent-clause-talks g c =
     talked g.S.Read.remaining g.S.Write.contents c.hear_and_draw-exchanged.result _ _ _ _ _ _ _
     c.flush.ensures.frames c.hear_and_draw-exchanged.ensures.exchanges c.flush-sent.ensures.frames
+
+pub returns-then-matches-clause-talks : goal.returns-then-matches-clause-talks
+returns-then-matches-clause-talks g c =
+    talked g.S.Read.remaining g.S.Write.contents c.hear_and_draw-exchanged.result _ _ _ _ _ _ _
+    c.flush.ensures.frames c.hear_and_draw-exchanged.ensures.exchanges (frames_none _ _ refl)

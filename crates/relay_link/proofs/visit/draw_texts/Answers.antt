@@ -1,6 +1,6 @@
 -- A pass drew one text more.
 use Rattle.std.proofs.Common.{rules}
-use Rattle.relay_link.proofs.Visiting.{drew_text, draws_one}
+use Rattle.relay_link.proofs.Visiting.{drew_text}
 use Rattle.relay_link.proofs.visit.draw_texts.Goals as goal
 
 pub loop-preserved : goal.loop-preserved
@@ -9,8 +9,7 @@ loop-preserved c = record {
       (rw c.in-Some.is at c.in_ok-text.ensures.drew);
   passes = search rules;
   adds = search rules;
-  each = draws_one c.args.events.now c.loop.events c.draw.new.events c.args.session
-      c.loop.counter c.in_ok-text.ensures.event c.loop.invariant.each;
+  each = search rules;
   count = search rules;
   room = search rules;
 }

@@ -1,11 +1,13 @@
 -- If the link no longer has its session, one of the events closed it.
-use Rattle.std.proofs.Common.{◌≡◌, ◌∙◌, Some, ap, rules, subst, subst₂}
+use Rattle.std.proofs.Common.{◌≡◌, ◌∙◌, min, Some, ap, rules, subst, subst₂}
 use Rattle.relay_link.specs.Asks.{Receives}
 use Rattle.relay_link.specs.Adds.{texts_of}
 use Rattle.relay_link.specs.BinaryAnswered.{BinaryAnsweredIfOpen}
 use Rattle.relay_link.specs.Hears.{PassesTexts}
 use Rattle.relay_link.specs.Replies.{Replies}
 use Rattle.relay_link.specs.Stage.{session_of}
+use Rattle.relay_link.specs.Stops.{StopsIfOpen}
+use Rattle.relay_link.specs.declared.link.TheConstants.{MAX_DRAWS}
 use Rattle.relay_link.proofs.Closed.{closed}
 use Rattle.relay_link.proofs.Following.{follows_as, follows_from}
 use Rattle.relay_link.proofs.link.Link.take_turn.Goals as goal
@@ -26,6 +28,12 @@ returns-clause-turns g c = record {
       c.advance-next.result.state events c.advance-next.new.events) (c.replace-state.ensures.value
       ∙ c.self.view_is) c.in_ok-events.ensures c.advance-next.ensures.passes);
   drew = search rules;
+  stop =
+      rw (c.into_events.ensures ∙ c.take_turned_away.ensures) (subst₂ (λ state events.
+      StopsIfOpen state c.advance-next.result.state c.advance-next.result.stop
+      (min c.args.draws MAX_DRAWS) c.advance-next.new.hub events c.advance-next.new.events)
+      (c.replace-state.ensures.value ∙ c.self.view_is) c.in_ok-events.ensures
+      (search rules));
   closed = λ s had gone.
       let was : session_of c.replace-state.result ≡ Some s =
       ap session_of (c.replace-state.ensures.value ∙ c.self.view_is) ∙ had in
