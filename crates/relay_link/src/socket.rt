@@ -159,6 +159,9 @@ pub(crate) fn close<S: Read + Write + Drop>(
     ensures prompt { IfErr result IsPrompt }
     ensures wrote { OnOk result (Writes (written S.contents) socket.old socket.new
         (close_step socket.old.conn (Some (code, [])))) }
+    ensures stopped { IfErr result (λ cause. cause ≡ Stream
+        → Writes (written S.contents) socket.old socket.new
+        (close_step socket.old.conn (Some (code, [])))) }
 {
     let reason = Utf8Bytes::new();
     is_sent(socket.close(Some(CloseFrame { code, reason })))
