@@ -1,5 +1,5 @@
 //! In which rooms clients may enter.
-ghost use Rattle.std.specs.Prelude.{◌≡◌, ℕ, List, true, false, OnOk, OnErr};
+ghost use Rattle.std.specs.Prelude.{◌≡◌, ◌≢◌, ℕ, List, true, false, OnOk, OnErr};
 ghost use Rattle.relay_link.specs.Entrance.{lets_in};
 
 use crate::entrance_fault::EntranceFault;
@@ -40,11 +40,13 @@ impl Entrance {
     }
 
     /// Lets clients into the room of a name too. `Full`: as many names are there as given, and this
-    /// one is not among them. An error leaves it as it was.
+    /// one is not among them. An error leaves it as it was. No other room is let in or kept out.
     pub fn admit(&mut self, alloc: Global, room: &str, most: u64) -> Result<(), EntranceFault>
         ensures admitted { OnOk result (lets_in self.new room.now ≡ true) }
         ensures unchanged { OnErr result
             ((name : List ℕ) → lets_in self.new name ≡ lets_in self.old name) }
+        ensures others { (name : List ℕ) → name ≢ room.now →
+            lets_in self.new name ≡ lets_in self.old name }
     {
         let Entrance::Only(names) = self else {
             return Ok(());
@@ -62,11 +64,13 @@ impl Entrance {
         }
     }
 
-    /// Keeps clients out of the room of a name. `AllOpen`: they may enter every room, and nothing
-    /// is changed. Allocates nothing.
+    /// Keeps clients out of the room of a name, and lets them into the others as before. `AllOpen`:
+    /// they may enter every room, and nothing is changed. Allocates nothing.
     pub fn exclude(&mut self, room: &str) -> Result<(), EntranceFault>
         ensures excluded { OnOk result (lets_in self.new room.now ≡ false) }
         ensures unchanged { OnErr result (self.new ≡ self.old) }
+        ensures others { (name : List ℕ) → name ≢ room.now →
+            lets_in self.new name ≡ lets_in self.old name }
     {
         let Entrance::Only(names) = self else {
             return Err(EntranceFault::AllOpen);
