@@ -6,7 +6,7 @@ use Rattle.relay_shake.specs.Shaken.{AnswersHead, AnswersNoHead}
 use Rattle.relay_shake.specs.declared.answer.Shake.{Shake}
 use Rattle.relay_proto.specs.declared.access.Access.{Access}
 use Rattle.relay_link.specs.Asks.{accepted, Asks, awaits_head, Receives}
-use Rattle.relay_link.specs.Stage.{stage_of, IsForward}
+use Rattle.relay_link.specs.Stage.{stage_of, IsForward, IsSound}
 use Rattle.relay_link.specs.Stream.{stream_of}
 use Rattle.relay_link.specs.declared.stage.Stage.TheVariants as stage
 use Rattle.relay_link.specs.declared.state.State.{State}
@@ -38,6 +38,18 @@ asks_with received taken whole room access left rest answer same first one_read 
         accepts = accepts;
       };
     }
+
+module _ {S : Type 0} where
+  -- a link past the handshake
+  pub sound_open : (state : State S) → IsForward stage.Open (stage_of state) → IsSound state
+  sound_open (Head stream bytes) is = absurd (omega (arith, is))
+  sound_open (Replying stream reply) is = absurd (omega (arith, is))
+  sound_open (Open socket s) is = tt
+  sound_open (Closing socket left) is = tt
+  sound_open Gone is = tt
+
+  pub sound_closing : (state : State S) → IsForward stage.Closing (stage_of state) → IsSound state
+  sound_closing state is = sound_open state (omega (arith, is))
 
 module _ {S : Type 0} (remaining : S → Option (List ℕ)) where
   -- a link that no longer waits for a head

@@ -1,6 +1,7 @@
 -- The stage and the session of a link.
-use Rattle.std.specs.Prelude.{ℕ, ◌≤◌, ◌&&◌, ◌==◌, length, Bool, true, false, not, Option, Some, None}
+use Rattle.std.specs.Prelude.{◌≡◌, ⊤, ℕ, ◌≤◌, ◌&&◌, ◌==◌, length, Bool, true, false, not, Option, Some, None}
 use Rattle.std.specs.Io.Buffered.{writer_buffer, writer_inner}
+use Rattle.relay_link.specs.Stream.{has_failed}
 use Rattle.relay_link.specs.declared.end_cause.EndCause.{EndCause}
 use Rattle.relay_link.specs.declared.end_cause.EndCause.TheVariants as cause
 use Rattle.relay_link.specs.declared.handshake_reply.Verdict.{Verdict}
@@ -27,6 +28,12 @@ module _ {S : Type 0} where
   session_of (Replying stream reply) = entered reply.verdict
   session_of (Open socket s) = Some s
   session_of _ = None
+
+  -- the stream of a link that waits for its head, or replies to it, has not failed in its last call
+  abbrev pub IsSound : State S → Type 0
+  IsSound (Head stream bytes) = has_failed stream ≡ false
+  IsSound (Replying stream reply) = has_failed stream ≡ false
+  IsSound _ = ⊤
 
   -- nothing has asked for another turn: there is no work until the stream is ready or a message
   -- waits for the session

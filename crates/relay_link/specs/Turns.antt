@@ -9,7 +9,7 @@ use Rattle.relay_link.specs.Ends.{turns_left}
 use Rattle.relay_link.specs.Follows.{Follows, at}
 use Rattle.relay_link.specs.Hears.{PassesTexts}
 use Rattle.relay_link.specs.Stops.{StopsIfOpen}
-use Rattle.relay_link.specs.Stage.{stage_of, session_of, leaves, is_over}
+use Rattle.relay_link.specs.Stage.{stage_of, session_of, leaves, is_over, IsSound}
 use Rattle.relay_link.specs.declared.end_cause.EndCause.TheVariants.{Silent}
 use Rattle.relay_link.specs.declared.link.TheConstants.{MAX_DRAWS}
 use Rattle.relay_link.specs.declared.event_log.TheConstants.{MAX_EVENTS}
@@ -47,4 +47,6 @@ pub record Turns {S : Type 0} (remaining : S → Option (List ℕ)) (texts most 
   -- used up is it silent
   pub patient : stage_of new ≡ Closing → turns_left old ≤ turns_left new + 1
   pub silent : turn.cause ≡ Some Silent → turns_left old ≤ 1
+  -- a link whose stream failed in the handshake is gone
+  pub sound : IsSound old → IsSound new
   pub gone : stage_of old ≡ Gone → (turn.events.items ≡ []) × (new ≡ old)

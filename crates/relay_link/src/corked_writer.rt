@@ -1,7 +1,9 @@
 //! A stream with buffered output that can be corked.
-ghost use Rattle.std.specs.Prelude.{◌≡◌, IfOk, ◌&&◌, ◌==◌, not, length};
+ghost use Rattle.std.specs.Prelude.{◌≡◌, false, IfOk, ◌&&◌, ◌==◌, not, length};
+ghost use Rattle.std.specs.Io.{ReadsAtMost};
 ghost use Rattle.std.specs.Io.Buffered.{writer_buffer, writer_inner};
-ghost use Rattle.relay_link.specs.Stream.{stream_of, is_blocked, written};
+ghost use Rattle.std.specs.Io.KnownBytes.{ReadConsumes};
+ghost use Rattle.relay_link.specs.Stream.{stream_of, is_blocked, has_failed, is_failure, written};
 
 use crate::non_blocking::NonBlocking;
 use std::alloc::{AllocError, Global};
@@ -36,7 +38,8 @@ pub(crate) struct CorkedWriter<S: Write + Drop> {
 
 impl<S: Write + Drop> CorkedWriter<S> {
     pub(crate) fn new(alloc: Global, stream: S) -> std::result::Result<CorkedWriter<S>, AllocError>
-        ensures { IfOk result (λ writer. stream_of writer ≡ stream) }
+        ensures stream { IfOk result (λ writer. stream_of writer ≡ stream) }
+        ensures sound { IfOk result (λ writer. has_failed writer ≡ false) }
     {
         match BufWriter::with_capacity(alloc, OUTPUT_BUFFER, NonBlocking::new(stream)) {
             Ok(writer) => Ok(CorkedWriter {
@@ -128,6 +131,13 @@ impl<S: Write + Drop> CorkedWriter<S> {
         self.writer.get_ref().is_blocked()
     }
 
+    /// Whether the stream's last call failed, and not only for now.
+    pub(crate) fn has_failed(&self) -> bool
+        ensures { result ≡ has_failed self.now }
+    {
+        self.writer.get_ref().has_failed()
+    }
+
     /// Whether a read gave as many bytes as it asked for.
     pub(crate) fn has_filled_a_read(&self) -> bool {
         self.writer.get_ref().has_filled_a_read()
@@ -144,7 +154,12 @@ impl<S: Write + Drop> CorkedWriter<S> {
 impl<S: Read + Write + Drop> Read for CorkedWriter<S> {
     ghost remaining = { λ w. S.remaining (stream_of w) };
 
-    fn read(&mut self, buf: &mut [u8]) -> Result<usize> {
+    fn read(&mut self, buf: &mut [u8]) -> Result<usize>
+        ensures bound { ReadsAtMost result buf.new }
+        ensures bytes { ReadConsumes (S.remaining (stream_of self.old))
+            (S.remaining (stream_of self.new)) result buf.new }
+        ensures failed { has_failed self.new ≡ is_failure result }
+    {
         self.obey();
         self.writer.get_mut().read(buf)
     }

@@ -5,7 +5,7 @@ ghost use Rattle.relay_link.specs.Asks.{Asks, Receives, awaits_head};
 ghost use Rattle.relay_link.specs.Entrance.{lets_in, Within};
 ghost use Rattle.relay_link.specs.Ends.{turns_left};
 ghost use Rattle.relay_link.specs.Follows.{Follows, no_room, is_room, at};
-ghost use Rattle.relay_link.specs.Stage.{entered, leaves, stage_of, session_of};
+ghost use Rattle.relay_link.specs.Stage.{entered, leaves, stage_of, session_of, IsSound};
 ghost use Rattle.relay_link.specs.Hears.{Passes};
 ghost use Rattle.relay_link.specs.Replies.{Replies, RepliesTo, WritesReply};
 ghost use Rattle.relay_link.specs.Stream.{stream_of, written};
@@ -62,6 +62,7 @@ pub(crate) fn listen<S: Read + Write + Drop>(
     ensures cause { is_some result.cause ≡ leaves Head (stage_of result.state) }
     ensures prompt { result.cause ≢ Some Silent }
     ensures stop { result.stop ≡ None }
+    ensures sound { IsSound result.state }
     ensures patient { MAX_TURNS ≤ turns_left result.state }
 {
     stream.begin_poll();
@@ -127,6 +128,7 @@ fn admit<S: Read + Write + Drop>(
     ensures cause { is_some result.cause ≡ leaves Head (stage_of result.state) }
     ensures prompt { result.cause ≢ Some Silent }
     ensures stop { result.stop ≡ None }
+    ensures sound { IsSound result.state }
     ensures patient { MAX_TURNS ≤ turns_left result.state }
 {
     match events::open(alloc, hub, room, access, events) {
@@ -166,6 +168,7 @@ fn turn_away<S: Read + Write + Drop>(
     ensures cause { is_some result.cause ≡ leaves Head (stage_of result.state) }
     ensures prompt { result.cause ≢ Some Silent }
     ensures stop { result.stop ≡ None }
+    ensures sound { IsSound result.state }
     ensures patient { MAX_TURNS ≤ turns_left result.state }
 {
     events.note_turned_away(room);
@@ -196,6 +199,7 @@ fn answer<S: Read + Write + Drop>(
     ensures cause { is_some result.cause ≡ leaves Head (stage_of result.state) }
     ensures prompt { result.cause ≢ Some Silent }
     ensures stop { result.stop ≡ None }
+    ensures sound { IsSound result.state }
     ensures patient { MAX_TURNS ≤ turns_left result.state }
 {
     reply(alloc, stream, HandshakeReply { rest, verdict }, hub, events)
@@ -223,6 +227,7 @@ pub(crate) fn reply<S: Read + Write + Drop>(
     ensures cause { is_some result.cause ≡ leaves Head (stage_of result.state) }
     ensures prompt { result.cause ≢ Some Silent }
     ensures stop { result.stop ≡ None }
+    ensures sound { IsSound result.state }
     ensures patient { MAX_TURNS ≤ turns_left result.state }
 {
     match reply.send(&mut stream) {
@@ -233,7 +238,9 @@ pub(crate) fn reply<S: Read + Write + Drop>(
             }),
             Verdict::Refused(status) => Transition::gone(EndCause::Refused(status)),
         },
-        Err(error) if is_nothing_now(&error) => Transition::on(State::Replying { stream, reply }),
+        Err(error) if is_nothing_now(&error) && !stream.has_failed() => {
+            Transition::on(State::Replying { stream, reply })
+        }
         Err(_) => {
             if let Verdict::Entered(session) = reply.verdict {
                 events::close(hub, session, events);

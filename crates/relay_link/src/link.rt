@@ -8,7 +8,7 @@ ghost use Rattle.relay_link.specs.Entrance.{Within};
 ghost use Rattle.relay_link.specs.Follows.{Follows, no_room, at, closing_of};
 ghost use Rattle.relay_link.specs.Hears.{PassesTexts};
 ghost use Rattle.relay_link.specs.Replies.{Replies};
-ghost use Rattle.relay_link.specs.Stage.{stage_of, session_of, has_corked_output, is_idle, leaves, ended, IsForward};
+ghost use Rattle.relay_link.specs.Stage.{stage_of, session_of, has_corked_output, is_idle, leaves, ended, IsForward, IsSound};
 ghost use Rattle.relay_link.specs.Stops.{StopsIfOpen};
 ghost use Rattle.relay_link.specs.Tells.{IsServing, Talks, WhileOpen, Told, Answered};
 ghost use Rattle.relay_link.specs.Turns.{Turns};
@@ -72,6 +72,7 @@ impl<S: Read + Write + Drop> Link<S> {
         ensures stage { IfOk result (λ link. stage_of link ≡ Head) }
         ensures session { IfOk result (λ link. session_of link ≡ None) }
         ensures fresh { IfOk result (IsFresh stream) }
+        ensures sound { IfOk result IsSound }
     {
         Ok(Link {
             state: State::Head {
@@ -323,7 +324,7 @@ impl<S: Read + Write + Drop> Link<S> {
 
 /// Runs a turn by the state of the link. In a write turn a link that waits for a head or a close is
 /// unchanged.
-#[tactic(auto, using(crate::proofs::Following::follows_same, crate::proofs::Following::follows_none, crate::proofs::Heads::received_none, crate::proofs::Heads::received_past, crate::proofs::Heads::received_open, crate::proofs::Heads::received_closing, crate::proofs::Hearing::passes_closing, crate::proofs::Hearing::passes_unchanged, crate::proofs::Replying::passes_replying, crate::proofs::Replying::passes_listening, crate::proofs::Replying::replies_unchanged))]
+#[tactic(auto, using(crate::proofs::Following::follows_same, crate::proofs::Following::follows_none, crate::proofs::Heads::received_none, crate::proofs::Heads::received_past, crate::proofs::Heads::received_open, crate::proofs::Heads::received_closing, crate::proofs::Hearing::passes_closing, crate::proofs::Hearing::passes_unchanged, crate::proofs::Replying::passes_replying, crate::proofs::Replying::passes_listening, crate::proofs::Replying::replies_unchanged, crate::proofs::Heads::sound_open, crate::proofs::Heads::sound_closing))]
 fn advance<S: Read + Write + Drop>(
     alloc: Global,
     state: State<S>,
@@ -343,6 +344,7 @@ fn advance<S: Read + Write + Drop>(
         state hub.new events.new result.state }
     ensures stop { StopsIfOpen state result.state result.stop draws hub.new events.old events.new }
     ensures serving { IsServing result.state }
+    ensures sound { IsSound state → IsSound result.state }
     ensures entrance { Follows (Within entrance.now) (at hub.old (session_of state) events.old)
         (at hub.new (session_of result.state) events.new) }
     ensures replies { Replies S.remaining S.contents entrance.now state result.state }

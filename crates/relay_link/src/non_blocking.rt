@@ -1,4 +1,7 @@
 //! A stream that never blocks a turn.
+ghost use Rattle.std.specs.Prelude.{◌≡◌};
+ghost use Rattle.relay_link.specs.Stream.{is_nothing_now, is_failure};
+
 use std::io;
 use std::io::{Error, ErrorKind, Read, Write};
 
@@ -26,13 +29,16 @@ pub(crate) struct NonBlocking<S> {
     broken: bool,
     /// Whether the last write or flush failed, be it for want of capacity.
     blocked: bool,
+    /// Whether the last call failed, and not only for now.
+    failed: bool,
 }
 
 impl<S> NonBlocking<S> {
-    ghost use Rattle.std.specs.Prelude.{◌≡◌, Ok, IfOk, is_err, not};
+    ghost use Rattle.std.specs.Prelude.{Ok, IfOk, false, true, is_err, not};
 
     pub(crate) fn new(stream: S) -> NonBlocking<S>
-        ensures { result.stream ≡ stream }
+        ensures stream { result.stream ≡ stream }
+        ensures sound { result.failed ≡ false }
     {
         NonBlocking {
             stream,
@@ -43,6 +49,7 @@ impl<S> NonBlocking<S> {
             wants_poll: false,
             broken: false,
             blocked: false,
+            failed: false,
         }
     }
 
@@ -56,8 +63,7 @@ impl<S> NonBlocking<S> {
 
     /// Asks for another turn.
     pub(crate) fn request_poll(&mut self)
-        ensures stream { self.new.stream ≡ self.old.stream }
-        ensures blocked { self.new.blocked ≡ self.old.blocked }
+        ensures { self.new ≡ record self.old { wants_poll = true } }
     {
         self.wants_poll = true;
     }
@@ -94,6 +100,13 @@ impl<S> NonBlocking<S> {
         self.blocked
     }
 
+    /// Whether the last call failed, and not only for now.
+    pub(crate) fn has_failed(&self) -> bool
+        ensures { result ≡ self.now.failed }
+    {
+        self.failed
+    }
+
     /// The result of a write or a flush, of which it notes whether it failed.
     fn noted_output<T>(&mut self, called: io::Result<T>) -> io::Result<T>
         ensures ok { IfOk result (λ value. called ≡ Ok value) }
@@ -111,25 +124,39 @@ impl<S> NonBlocking<S> {
         ensures err { is_err result ≡ is_err called }
         ensures stream { self.new.stream ≡ self.old.stream }
         ensures blocked { self.new.blocked ≡ self.old.blocked }
+        ensures failed { self.new.failed ≡ is_failure result }
     {
         match called {
             Err(error) if error.kind() == ErrorKind::Interrupted => {
                 self.request_poll();
+                self.failed = false;
                 Err(Error::from(ErrorKind::WouldBlock))
             }
-            _ => called,
+            _ => {
+                self.failed = is_failure(&called);
+                called
+            }
         }
     }
 }
 
 impl<S: Read> Read for NonBlocking<S> {
+    ghost use Rattle.std.specs.Io.{ReadsAtMost};
+    ghost use Rattle.std.specs.Io.KnownBytes.{ReadConsumes};
+
     ghost remaining = { λ n. S.remaining n.stream };
 
-    fn read(&mut self, buf: &mut [u8]) -> io::Result<usize> {
+    fn read(&mut self, buf: &mut [u8]) -> io::Result<usize>
+        ensures bound { ReadsAtMost result buf.new }
+        ensures bytes { ReadConsumes (S.remaining self.old.stream) (S.remaining self.new.stream)
+            result buf.new }
+        ensures failed { self.new.failed ≡ is_failure result }
+    {
         match self.left.checked_sub(buf.len()) {
             Some(left) => self.left = left,
             None => {
                 self.request_poll();
+                self.failed = false;
                 return Err(Error::from(ErrorKind::WouldBlock));
             }
         }
@@ -148,11 +175,14 @@ impl<S: Write> Write for NonBlocking<S> {
 
     fn write(&mut self, buf: &[u8]) -> io::Result<usize> {
         if self.broken {
+            self.failed = true;
             return Err(Error::from(ErrorKind::BrokenPipe));
         }
         let written = self.stream.write(buf);
         self.broken = is_break(&written);
-        self.noted_output(written)
+        let noted = self.noted_output(written);
+        self.failed = self.broken;
+        noted
     }
 
     fn flush(&mut self) -> io::Result<()> {
@@ -170,6 +200,18 @@ fn is_break(written: &io::Result<usize>) -> bool {
 }
 
 /// Whether the stream merely has nothing to read, or no capacity to write, for now.
-pub(crate) fn is_nothing_now(error: &Error) -> bool {
-    error.kind() == ErrorKind::WouldBlock
+pub(crate) fn is_nothing_now(error: &Error) -> bool
+    ensures { result ≡ is_nothing_now error.now }
+{
+    matches!(error.kind(), ErrorKind::WouldBlock)
+}
+
+/// Whether a call failed, and not only for now.
+fn is_failure<T>(called: &io::Result<T>) -> bool
+    ensures { result ≡ is_failure called.now }
+{
+    match called {
+        Ok(_) => false,
+        Err(error) => !is_nothing_now(error),
+    }
 }

@@ -5,7 +5,7 @@ use Rattle.relay_link.specs.Adds.{texts_of}
 use Rattle.relay_link.specs.BinaryAnswered.{BinaryAnsweredIfOpen}
 use Rattle.relay_link.specs.Hears.{PassesTexts}
 use Rattle.relay_link.specs.Replies.{Replies}
-use Rattle.relay_link.specs.Stage.{session_of}
+use Rattle.relay_link.specs.Stage.{session_of, IsSound}
 use Rattle.relay_link.specs.Stops.{StopsIfOpen}
 use Rattle.relay_link.specs.declared.link.TheConstants.{MAX_DRAWS}
 use Rattle.relay_link.proofs.Closed.{closed}
@@ -44,6 +44,8 @@ returns-clause-turns g c = record {
   cause = search rules;
   patient = search rules;
   silent = search rules;
+  sound = subst (λ state. IsSound state → IsSound c.advance-next.result.state)
+      (c.replace-state.ensures.value ∙ c.self.view_is) c.advance-next.ensures.sound;
   gone = search rules;
 }
 
