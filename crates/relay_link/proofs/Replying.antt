@@ -1,5 +1,5 @@
 -- What a link wrote of a reply, and what it keeps.
-use Rattle.std.proofs.Common.{◌≡◌, ℕ, Bool, true, false, string_bytes, List, [], ◌++◌, take, drop, Option, refl, sym, subst, ap, ◌∙◌, append_assoc, append-nil, Vec, Global, String}
+use Rattle.std.proofs.Common.{◌≡◌, ℕ, Bool, true, false, string_bytes, List, [], ◌++◌, take, drop, Option, Result, is_ok, is_err, if◌then◌else◌, refl, sym, subst, ap, ◌∙◌, append_assoc, append-nil, Vec, Global, String}
 use Rattle.std.proofs.KnownBytes.{Appends-trans, Appends-nil}
 use Rattle.std.proofs.lemmas.List.{take-append-drop}
 use Rattle.std.specs.Io.KnownBytes.{Appends, Keeps, Consumes}
@@ -24,6 +24,7 @@ use Rattle.relay_link.specs.declared.handshake_reply.Verdict.TheVariants.{Entere
 use Rattle.relay_link.specs.declared.state.State.{State}
 use Rattle.relay_link.specs.declared.state.State.TheVariants.{Head, Replying, Open, Closing, Gone}
 use Rattle.relay_link.proofs.Framing.{appends_kept}
+use Rattle.relay_link.proofs.Heads.{extended}
 
 -- ---- a reply that is being written: a front part was sent, and the rest is kept
 
@@ -188,13 +189,18 @@ module _ {S : Type 0} (remaining contents : S → Option (List ℕ)) (entrance :
   -- ---- the reply to a head
 
   -- the answer to what was received and what one read took, and how it was replied to
-  pub replies_head : (stream now : CorkedWriter S) (bytes : Vec ℕ Global) (whole taken : List ℕ)
-      (answer : Shake) (new : State S) → whole ≡ bytes.items ++ taken
+  pub replies_head : {T E : Type 0} (stream now : CorkedWriter S) (bytes : Vec ℕ Global)
+      (kept : Result T E) (whole items taken : List ℕ) (answer : Shake) (new : State S)
+      → is_err kept ≡ false → whole ≡ items
+      → items ≡ (if is_ok kept then bytes.items ++ taken else bytes.items)
       → Consumes (remaining (stream_of stream)) (remaining (stream_of now)) taken
       → AnswersHead whole answer → AnswersNoHead whole answer
       → RepliesTo contents entrance (written contents now) answer new
       → Replies remaining contents entrance (Head stream bytes) new
-  replies_head stream now bytes whole taken answer new same first head no_head replies =
+  replies_head stream now bytes kept whole items taken answer new fits is appended first head
+      no_head replies =
+      let same : whole ≡ bytes.items ++ taken =
+      is ∙ extended kept bytes.items items taken fits appended in
       let left = remaining (stream_of stream) in
       let found : RepliesToHead contents entrance bytes.items left new = record {
         taken = taken;

@@ -66,49 +66,34 @@ returns-in-Ok-More-clause-received g c =
 -- The head is whole: the reply is the answer to those bytes.
 pub returns-then-lets_in-clause-replies : goal.returns-then-lets_in-clause-replies
 returns-then-lets_in-clause-replies g c =
-    let fits : is_err c.extend_from_slice.result ≡ false = search rules in
-    let whole = c.as_slice.ensures.value
-    ∙ extended c.extend_from_slice.result c.args.bytes.items
-    c.extend_from_slice.new.self.items _ fits c.extend_from_slice.ensures.items in
-    let taken = take c.in-Ok.len c.read.new.buf in
-    let first : Consumes (g.S.Read.remaining (stream_of c.args.stream))
-    (g.S.Read.remaining (stream_of c.read.new.self)) taken = c.in-Ok.ensures.bytes.0 in
     let enters : lets_in c.args.entrance.now (string_bytes c.in-Ok-Accept.room) ≡ true =
     search rules in
     replies_head g.S.Read.remaining g.S.Write.contents c.args.entrance.now c.args.stream
-    c.read.new.self c.args.bytes _ taken c.in-Ok-Accept.field-0 _ whole first
+    c.read.new.self c.args.bytes c.extend_from_slice.result _ c.extend_from_slice.new.self.items
+    (take c.in-Ok.len c.read.new.buf) c.in-Ok-Accept.field-0 _ (search rules)
+    c.as_slice.ensures.value c.extend_from_slice.ensures.items c.in-Ok.ensures.bytes.0
     c.in-Ok-Accept.ensures.head c.in-Ok-Accept.ensures.no_head
     (rw c.in-Ok-Accept.field-0-is (c.admit.ensures.replies c.args.entrance.now enters))
 
 -- The same for a room in which clients may not enter.
 pub returns-in-Ok-Accept-clause-replies : goal.returns-in-Ok-Accept-clause-replies
 returns-in-Ok-Accept-clause-replies g c =
-    let fits : is_err c.extend_from_slice.result ≡ false = search rules in
-    let whole = c.as_slice.ensures.value
-    ∙ extended c.extend_from_slice.result c.args.bytes.items
-    c.extend_from_slice.new.self.items _ fits c.extend_from_slice.ensures.items in
-    let taken = take c.in-Ok.len c.read.new.buf in
-    let first : Consumes (g.S.Read.remaining (stream_of c.args.stream))
-    (g.S.Read.remaining (stream_of c.read.new.self)) taken = c.in-Ok.ensures.bytes.0 in
     let stays_out : lets_in c.args.entrance.now (string_bytes c.in-Ok-Accept.room) ≡ false =
     search rules in
     replies_head g.S.Read.remaining g.S.Write.contents c.args.entrance.now c.args.stream
-    c.read.new.self c.args.bytes _ taken c.in-Ok-Accept.field-0 _ whole first
+    c.read.new.self c.args.bytes c.extend_from_slice.result _ c.extend_from_slice.new.self.items
+    (take c.in-Ok.len c.read.new.buf) c.in-Ok-Accept.field-0 _ (search rules)
+    c.as_slice.ensures.value c.extend_from_slice.ensures.items c.in-Ok.ensures.bytes.0
     c.in-Ok-Accept.ensures.head c.in-Ok-Accept.ensures.no_head
     (rw c.in-Ok-Accept.field-0-is
     (replies_closed g.S.Write.contents _ _ _ _ _ _ stays_out c.turn_away.ensures.writes))
 
 pub returns-in-Ok-Refuse-clause-replies : goal.returns-in-Ok-Refuse-clause-replies
 returns-in-Ok-Refuse-clause-replies g c =
-    let fits : is_err c.extend_from_slice.result ≡ false = search rules in
-    let whole = c.as_slice.ensures.value
-    ∙ extended c.extend_from_slice.result c.args.bytes.items
-    c.extend_from_slice.new.self.items _ fits c.extend_from_slice.ensures.items in
-    let taken = take c.in-Ok.len c.read.new.buf in
-    let first : Consumes (g.S.Read.remaining (stream_of c.args.stream))
-    (g.S.Read.remaining (stream_of c.read.new.self)) taken = c.in-Ok.ensures.bytes.0 in
     replies_head g.S.Read.remaining g.S.Write.contents c.args.entrance.now c.args.stream
-    c.read.new.self c.args.bytes _ taken c.in-Ok-Refuse.field-0 _ whole first
+    c.read.new.self c.args.bytes c.extend_from_slice.result _ c.extend_from_slice.new.self.items
+    (take c.in-Ok.len c.read.new.buf) c.in-Ok-Refuse.field-0 _ (search rules)
+    c.as_slice.ensures.value c.extend_from_slice.ensures.items c.in-Ok.ensures.bytes.0
     c.in-Ok-Refuse.ensures.head c.in-Ok-Refuse.ensures.no_head
     (rw c.in-Ok-Refuse.field-0-is
     (replies_refuse g.S.Write.contents _ _ _ _ _ c.answer.ensures.writes))
