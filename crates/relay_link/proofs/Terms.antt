@@ -185,10 +185,10 @@ limits_of config given has is =
     } ≡ limits) (is.2 ∙ sym has.2) refl))
 
 -- so it changes nothing of a socket that keeps them
-pub widened : {S : Type 0} (old new : Socket S) (given : WebSocketConfig) → Serves old.conn
+pub grown : {S : Type 0} (old new : Socket S) (given : WebSocketConfig) → Serves old.conn
     → HasLimits new.conn.config given → HasLimits limits given
     → new ≡ record old { conn = record old.conn { config = new.conn.config } } → new ≡ old
-widened old new given serves has is changed =
+grown old new given serves has is changed =
     changed ∙ ap (λ k. record old { conn = record old.conn { config = k } })
     (limits_of new.conn.config given has is ∙ sym serves.limited)
 

@@ -38,16 +38,16 @@ module _ {S : Type 0} where
   -- nothing has asked for another turn: there is no work until the stream is ready or a message
   -- waits for the session
   abbrev pub is_idle : State S → Bool
-  is_idle (Head stream bytes) = not (writer_inner stream.writer).wants_poll
-  is_idle (Replying stream reply) = not (writer_inner stream.writer).wants_poll
-  is_idle (Open socket s) = not (writer_inner socket.stream.writer).wants_poll
-  is_idle (Closing socket turns) = not (writer_inner socket.stream.writer).wants_poll
+  is_idle (Head stream bytes) = not (writer_inner stream.writer).wants_turn
+  is_idle (Replying stream reply) = not (writer_inner stream.writer).wants_turn
+  is_idle (Open socket s) = not (writer_inner socket.stream.writer).wants_turn
+  is_idle (Closing socket turns) = not (writer_inner socket.stream.writer).wants_turn
   is_idle Gone = true
 
   -- the link is open, and its output buffer is corked and not empty
   abbrev pub has_corked_output : State S → Bool
   has_corked_output (Open socket s) =
-      socket.stream.holds && not (length (writer_buffer socket.stream.writer) == 0)
+      socket.stream.is_corked && not (length (writer_buffer socket.stream.writer) == 0)
   has_corked_output _ = false
 
 -- the order of the stages

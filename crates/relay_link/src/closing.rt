@@ -27,7 +27,7 @@ pub(crate) fn turn<S: Read + Write + Drop>(mut socket: Socket<S>, turns: u64) ->
     ensures stop { result.stop ≡ None }
     ensures patient { stage_of result.state ≡ Closing → turns ≤ turns_left result.state + 1 }
 {
-    socket.get_ref().begin_poll();
+    socket.get_ref().begin_read_turn();
     if let Err(cause) = let_go(&mut socket) {
         return Transition::gone(cause);
     }

@@ -17,10 +17,10 @@ const OUTPUT_BUFFER: usize = 640;
 /// What a link has asked of its stream since the stream's last call.
 #[derive(Clone, Copy)]
 struct Orders {
-    begins_poll: bool,
+    begins_read_turn: bool,
     taken: usize,
-    requests_poll: bool,
-    holds: bool,
+    requests_turn: bool,
+    is_corked: bool,
 }
 
 /// A non-blocking stream behind an output buffer. While it is corked, a flush leaves the output in
@@ -32,7 +32,7 @@ struct Orders {
 #[derive(Drop)]
 pub(crate) struct CorkedWriter<S: Write + Drop> {
     writer: BufWriter<NonBlocking<S>>,
-    holds: bool,
+    is_corked: bool,
     orders: Cell<Orders>,
 }
 
@@ -44,30 +44,30 @@ impl<S: Write + Drop> CorkedWriter<S> {
         match BufWriter::with_capacity(alloc, OUTPUT_BUFFER, NonBlocking::new(stream)) {
             Ok(writer) => Ok(CorkedWriter {
                 writer,
-                holds: false,
+                is_corked: false,
                 orders: Cell::new(Orders {
-                    begins_poll: false,
+                    begins_read_turn: false,
                     taken: 0,
-                    requests_poll: false,
-                    holds: false,
+                    requests_turn: false,
+                    is_corked: false,
                 }),
             }),
             Err(_) => Err(AllocError),
         }
     }
 
-    /// Corks or uncorks the output: while `holds`, flushes write nothing.
-    pub(crate) fn hold(&self, holds: bool) {
+    /// Corks the output, so that flushes write nothing, or uncorks it.
+    pub(crate) fn set_corked(&self, is_corked: bool) {
         let mut orders = self.orders.get();
-        orders.holds = holds;
+        orders.is_corked = is_corked;
         self.orders.set(orders);
     }
 
     /// Begins a read turn.
-    pub(crate) fn begin_poll(&self) {
+    pub(crate) fn begin_read_turn(&self) {
         let mut orders = self.orders.get();
-        orders.begins_poll = true;
-        orders.requests_poll = false;
+        orders.begins_read_turn = true;
+        orders.requests_turn = false;
         self.orders.set(orders);
     }
 
@@ -80,9 +80,9 @@ impl<S: Write + Drop> CorkedWriter<S> {
     }
 
     /// Asks for another turn.
-    pub(crate) fn request_poll(&self) {
+    pub(crate) fn request_turn(&self) {
         let mut orders = self.orders.get();
-        orders.requests_poll = true;
+        orders.requests_turn = true;
         self.orders.set(orders);
     }
 
@@ -92,21 +92,21 @@ impl<S: Write + Drop> CorkedWriter<S> {
         ensures buffer { writer_buffer self.new.writer ≡ writer_buffer self.old.writer }
     {
         let orders = self.orders.get();
-        if orders.begins_poll {
-            self.writer.get_mut().begin_poll();
+        if orders.begins_read_turn {
+            self.writer.get_mut().begin_read_turn();
         }
         if orders.taken > 0 {
             self.writer.get_mut().note_taken(orders.taken);
         }
-        if orders.requests_poll {
-            self.writer.get_mut().request_poll();
+        if orders.requests_turn {
+            self.writer.get_mut().request_turn();
         }
-        self.holds = orders.holds;
+        self.is_corked = orders.is_corked;
         self.orders.set(Orders {
-            begins_poll: false,
+            begins_read_turn: false,
             taken: 0,
-            requests_poll: false,
-            holds: orders.holds,
+            requests_turn: false,
+            is_corked: orders.is_corked,
         });
     }
 
@@ -119,9 +119,9 @@ impl<S: Write + Drop> CorkedWriter<S> {
 
     /// Whether the buffer has output and is corked.
     pub(crate) fn has_corked_output(&self) -> bool
-        ensures { result ≡ self.now.holds && not (length (writer_buffer self.now.writer) == 0) }
+        ensures { result ≡ self.now.is_corked && not (length (writer_buffer self.now.writer) == 0) }
     {
-        self.holds && self.has_output()
+        self.is_corked && self.has_output()
     }
 
     /// Whether the stream's last write or flush failed, so that output may be pending.
@@ -145,7 +145,7 @@ impl<S: Write + Drop> CorkedWriter<S> {
 
     /// Whether nothing has asked for another turn.
     pub(crate) fn is_idle(&self) -> bool
-        ensures { result ≡ not (writer_inner self.now.writer).wants_poll }
+        ensures { result ≡ not (writer_inner self.now.writer).wants_turn }
     {
         self.writer.get_ref().is_idle()
     }
@@ -175,7 +175,7 @@ impl<S: Write + Drop> Write for CorkedWriter<S> {
 
     fn flush(&mut self) -> Result<()> {
         self.obey();
-        if self.holds {
+        if self.is_corked {
             return Ok(());
         }
         self.writer.flush()

@@ -65,7 +65,7 @@ pub(crate) fn listen<S: Read + Write + Drop>(
     ensures sound { IsSound result.state }
     ensures patient { MAX_TURNS ≤ turns_left result.state }
 {
-    stream.begin_poll();
+    stream.begin_read_turn();
     let mut chunk = [0u8; MAX_READ];
     match stream.read(&mut chunk) {
         Ok(0) => return Transition::gone(EndCause::Peer),

@@ -257,7 +257,7 @@ impl<S: Read + Write + Drop> Link<S> {
         let cause = match mem::replace(&mut self.state, State::Gone) {
             State::Gone => None,
             State::Open { mut socket, .. } => {
-                socket.get_ref().hold(false);
+                socket.get_ref().set_corked(false);
                 let _ = close(&mut socket, CloseCode::Away);
                 Some(EndCause::Ended)
             }

@@ -24,7 +24,7 @@ pub(crate) struct NonBlocking<S> {
     /// How many of the bytes that were read are not yet taken, at most.
     untaken: usize,
     /// Whether another turn may have work although no new event is ready.
-    wants_poll: bool,
+    wants_turn: bool,
     /// Whether a write failed, or accepted no byte.
     broken: bool,
     /// Whether the last write or flush failed, be it for want of capacity.
@@ -46,7 +46,7 @@ impl<S> NonBlocking<S> {
             last_filled: false,
             filled: false,
             untaken: 0,
-            wants_poll: false,
+            wants_turn: false,
             broken: false,
             blocked: false,
             failed: false,
@@ -54,18 +54,18 @@ impl<S> NonBlocking<S> {
     }
 
     /// Begins a read turn.
-    pub(crate) fn begin_poll(&mut self)
+    pub(crate) fn begin_read_turn(&mut self)
         ensures { self.new.stream ≡ self.old.stream }
     {
         self.left = MAX_ASKED;
-        self.wants_poll = false;
+        self.wants_turn = false;
     }
 
     /// Asks for another turn.
-    pub(crate) fn request_poll(&mut self)
-        ensures { self.new ≡ record self.old { wants_poll = true } }
+    pub(crate) fn request_turn(&mut self)
+        ensures { self.new ≡ record self.old { wants_turn = true } }
     {
-        self.wants_poll = true;
+        self.wants_turn = true;
     }
 
     /// Notes that a message of at least `len` bytes was taken off what was read. Asks for another
@@ -75,7 +75,7 @@ impl<S> NonBlocking<S> {
     {
         self.untaken = self.untaken.saturating_sub(len);
         if self.untaken > 0 || self.last_filled {
-            self.request_poll();
+            self.request_turn();
         }
     }
 
@@ -83,9 +83,9 @@ impl<S> NonBlocking<S> {
     /// another turn. A write does not ask for one: pending output waits until the stream is
     /// writable.
     pub(crate) fn is_idle(&self) -> bool
-        ensures { result ≡ not self.now.wants_poll }
+        ensures { result ≡ not self.now.wants_turn }
     {
-        !self.wants_poll
+        !self.wants_turn
     }
 
     /// Whether a read gave as many bytes as it asked for.
@@ -128,7 +128,7 @@ impl<S> NonBlocking<S> {
     {
         match called {
             Err(error) if error.kind() == ErrorKind::Interrupted => {
-                self.request_poll();
+                self.request_turn();
                 self.failed = false;
                 Err(Error::from(ErrorKind::WouldBlock))
             }
@@ -155,7 +155,7 @@ impl<S: Read> Read for NonBlocking<S> {
         match self.left.checked_sub(buf.len()) {
             Some(left) => self.left = left,
             None => {
-                self.request_poll();
+                self.request_turn();
                 self.failed = false;
                 return Err(Error::from(ErrorKind::WouldBlock));
             }

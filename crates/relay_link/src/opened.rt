@@ -18,7 +18,7 @@ use crate::draw_stop::DrawStop;
 use crate::end_cause::EndCause;
 use crate::event_log::EventLog;
 use crate::events;
-use crate::socket::{Socket, close, flush, read, widen, write};
+use crate::socket::{Socket, close, flush, grow_read_buffer, read, write};
 use crate::state::State;
 use crate::transition::Transition;
 use crate::turn_phase::TurnPhase;
@@ -73,9 +73,9 @@ pub(crate) fn turn<S: Read + Write + Drop>(
     ensures prompt { result.cause ≢ Some Silent }
     ensures patient { MAX_TURNS ≤ turns_left result.state }
 {
-    widen(&mut socket);
+    grow_read_buffer(&mut socket);
     if phase != TurnPhase::Write {
-        socket.get_ref().begin_poll();
+        socket.get_ref().begin_read_turn();
     }
     let turned = serve(alloc, &mut socket, session, phase, draws, hub, events);
     finish(turned, socket, session, hub, events)
@@ -151,7 +151,7 @@ fn serve<S: Read + Write + Drop>(
     // is so for the cause of that, and not of the flush.
     socket
         .get_ref()
-        .hold(phase == TurnPhase::Read && exchanged.is_ok());
+        .set_corked(phase == TurnPhase::Read && exchanged.is_ok());
     // The stream has just taken no output, and is not asked again.
     if matches!(exchanged, Ok(DrawStop::Pending)) {
         return exchanged;
@@ -193,7 +193,7 @@ fn hear_and_draw<S: Read + Write + Drop>(
     Ok(stop)
 }
 
-/// Hears a text, if the phase reads and the hub may hear the session.
+/// Reads one message and passes its text to the hub, if the turn reads and the session is not busy.
 #[tactic(auto, using(crate::proofs::Following::follows_same, crate::proofs::Telling::drew_same, crate::proofs::Hearing::passes_same, crate::proofs::Hearing::hearing_none, crate::proofs::Hearing::hearing_most))]
 fn hear<S: Read + Write + Drop>(
     alloc: Global,
@@ -222,7 +222,7 @@ fn hear<S: Read + Write + Drop>(
     hear_text(alloc, socket, session, hub, events)
 }
 
-/// Passes the next text to the hub, if there is one.
+/// Reads one message, and passes its text to the hub if it is a text.
 #[tactic(auto, using(crate::proofs::Following::follows_same, crate::proofs::Telling::drew_same, crate::proofs::Hearing::passes_same, crate::proofs::Hearing::hearing_found))]
 fn hear_text<S: Read + Write + Drop>(
     alloc: Global,
@@ -275,8 +275,8 @@ fn next_text<S: Read + Write + Drop>(socket: &mut Socket<S>) -> Result<Option<Te
     }
 }
 
-/// Draws up to `draws` messages and frames each, until output may be pending. A draw that is out of
-/// memory ends the turn, and asks for another. Returns why it drew no more.
+/// Draws messages and frames each: up to `draws`, until none waits, the stream takes no output, or
+/// memory is refused for one, which asks for another turn. Returns which of these it was.
 #[tactic(auto, using(crate::proofs::Following::follows_same, crate::proofs::Following::follows_then, crate::proofs::Hearing::passes_same, crate::proofs::Hearing::passes_then, crate::proofs::Telling::tells_start, crate::proofs::Telling::tells_on, crate::proofs::Telling::tells_text))]
 fn draw_messages<S: Read + Write + Drop>(
     alloc: Global,
@@ -302,7 +302,7 @@ fn draw_messages<S: Read + Write + Drop>(
             Ok(Some(text)) => text,
             Ok(None) => return Ok(DrawStop::Empty),
             Err(_) => {
-                socket.get_ref().request_poll();
+                socket.get_ref().request_turn();
                 return Ok(DrawStop::Memory);
             }
         };

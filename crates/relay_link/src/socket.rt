@@ -30,9 +30,9 @@ pub(crate) type Socket<S> = WebSocket<CorkedWriter<S>, NoMask>;
 /// held.
 const READ_BUFFER: usize = 1_280;
 
-/// The size of the read buffer once a read has filled the smaller one: so many bytes at once take
-/// fewer reads.
-const WIDE_READ_BUFFER: usize = 8_192;
+/// The size of the larger read buffer, for a socket of which a read has filled the smaller one: so
+/// many bytes at once take fewer reads.
+const GROWN_READ_BUFFER: usize = 8_192;
 
 /// The maximum size of an incoming message and of each of its frames, in bytes. It is a little more
 /// than the longest request, so that a request that is slightly too long still gets a reply. A
@@ -68,15 +68,15 @@ fn config_with(read_buffer: usize) -> WebSocketConfig
         .max_frame_size(Some(MAX_MESSAGE))
 }
 
-/// Gives a socket the wide read buffer once a read has filled the smaller one.
-#[tactic(auto, using(crate::proofs::Terms::widened))]
-pub(crate) fn widen<S: Read + Write + Drop>(socket: &mut Socket<S>)
+/// Gives a socket the larger read buffer once a read has filled the smaller one.
+#[tactic(auto, using(crate::proofs::Terms::grown))]
+pub(crate) fn grow_read_buffer<S: Read + Write + Drop>(socket: &mut Socket<S>)
     requires { Serves socket.old.conn }
     ensures { socket.new ≡ socket.old }
 {
-    let is_narrow = socket.get_config().read_buffer_size < WIDE_READ_BUFFER;
-    if is_narrow && socket.get_ref().has_filled_a_read() {
-        socket.set_config(config_with(WIDE_READ_BUFFER));
+    let is_small = socket.get_config().read_buffer_size < GROWN_READ_BUFFER;
+    if is_small && socket.get_ref().has_filled_a_read() {
+        socket.set_config(config_with(GROWN_READ_BUFFER));
     }
 }
 
@@ -106,7 +106,7 @@ pub(crate) fn read<S: Read + Write + Drop>(
 fn note_found<S: Write + Drop>(stream: &CorkedWriter<S>, message: &Message) {
     stream.note_taken(least_len(message));
     if message.is_close() {
-        stream.request_poll();
+        stream.request_turn();
     }
 }
 

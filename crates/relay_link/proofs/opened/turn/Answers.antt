@@ -14,7 +14,7 @@ returns-clause-talks g c =
     let talks = Talks g.S.Read.remaining g.S.Write.contents (texts_of c.args.phase) in
     let state = c.finish.result.state in
     subst (λ socket. IfOpen talks before socket c.finish.new.hub c.finish.new.events state)
-    c.widen.ensures
+    c.grow_read_buffer.ensures
     (talked_into g.S.Read.remaining g.S.Write.contents c.serve-turned.result _ _ _ _ _ _ _ _ _ _
     c.serve-turned.ensures.talks c.finish.ensures.stays c.finish.ensures.over)
 
@@ -24,7 +24,7 @@ returns-clause-passes g c =
     let state = c.finish.result.state in
     let events = c.args.events.now in
     subst (λ socket. ReadsTexts g.S.Read.remaining most socket state events c.finish.new.events)
-    c.widen.ensures
+    c.grow_read_buffer.ensures
     (reads_into g.S.Read.remaining g.S.Write.contents c.serve-turned.result _ _ _ _ _ _ _ _ _ _
     c.serve-turned.ensures.talks c.serve-turned.ensures.passes c.finish.ensures.stays
     c.finish.ensures.over c.finish.ensures.passes)
