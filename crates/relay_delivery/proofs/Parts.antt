@@ -1,4 +1,4 @@
--- A list from a place on, and what is written back there.
+-- A list from an index on, and what is written back there.
 use Rattle.std.proofs.Common.{◌≡◌, ℕ, ◌+◌, ◌-◌, ◌≤◌, List, length, take, drop, sym, ◌∙◌, ap, arith, length-drop}
 use Rattle.std.proofs.lemmas.List.{take_all, drop-drop}
 use Rattle.std.proofs.lemmas.Slice.{between_to_end, between-put_mid}
@@ -22,6 +22,6 @@ module _ (xs ys : List ℕ) (a : ℕ) (within : a ≤ length xs) (same : length 
       sym (between_to_end put a (length xs) short)
       ∙ between-put_mid a (length xs - a) xs ys (length xs) within part_length
 
-  -- what stands from a later place on
+  -- what stands from a later index on
   pub put_from : (n : ℕ) → drop (a + n) (put_mid a (length xs - a) xs ys) ≡ drop n ys
   put_from n = sym (drop-drop n a (put_mid a (length xs - a) xs ys)) ∙ ap (drop n) part_back

@@ -7,6 +7,7 @@ pub mod Hearing
 pub mod Replying
 pub mod Terms
 pub mod Telling
+pub mod Sending
 pub mod Entering
 pub mod Stopping
 pub mod Visiting

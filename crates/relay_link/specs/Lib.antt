@@ -13,5 +13,6 @@ pub mod Frames
 pub mod Tells
 pub mod Stops
 pub mod Replies
+pub mod Sends
 pub mod BinaryAnswered
 pub mod Visits

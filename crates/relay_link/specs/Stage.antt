@@ -51,15 +51,15 @@ module _ {S : Type 0} where
   has_corked_output _ = false
 
 -- the order of the stages
-abbrev pub place : Stage → ℕ
-place stage.Head = 0
-place stage.Open = 1
-place stage.Closing = 2
-place stage.Gone = 3
+abbrev pub order : Stage → ℕ
+order stage.Head = 0
+order stage.Open = 1
+order stage.Closing = 2
+order stage.Gone = 3
 
 -- the second stage is the first, or comes after it
 abbrev pub IsForward : Stage → Stage → Type 0
-IsForward old new = place old ≤ place new
+IsForward old new = order old ≤ order new
 
 -- whether a link that passes from the first stage to the second has a cause: a handshake that ends
 -- without opening it, an open link that becomes closing or gone, a closing link that becomes gone

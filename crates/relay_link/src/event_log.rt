@@ -15,8 +15,8 @@ pub(crate) struct EventLog {
     drawn: u64,
     /// Why the hub opened no session, if it was asked for one.
     fault: Cell<Option<OpenFault>>,
-    /// The place of the room of the session that it opened.
-    place: Cell<Option<usize>>,
+    /// The index of the room of the session that it opened.
+    room_index: Cell<Option<usize>>,
     /// The room in which a client may not enter, if it asked for one.
     turned_away: Option<String>,
 }
@@ -45,7 +45,7 @@ impl EventLog {
             events: Vec::with_capacity(alloc, MAX_EVENTS)?,
             drawn: 0,
             fault: Cell::new(None),
-            place: Cell::new(None),
+            room_index: Cell::new(None),
             turned_away: None,
         })
     }
@@ -84,14 +84,14 @@ impl EventLog {
         self.fault.get()
     }
 
-    /// Notes the place of the room of the session that the hub opened. Allocates nothing.
-    pub(crate) fn note_place(&self, place: Option<usize>) {
-        self.place.set(place);
+    /// Notes the index of the room of the session that the hub opened. Allocates nothing.
+    pub(crate) fn note_room_index(&self, index: Option<usize>) {
+        self.room_index.set(index);
     }
 
-    /// The place of the room of the session that the hub opened, if it opened one.
-    pub(crate) fn place(&self) -> Option<usize> {
-        self.place.get()
+    /// The index of the room of the session that the hub opened, if it opened one.
+    pub(crate) fn room_index(&self) -> Option<usize> {
+        self.room_index.get()
     }
 
     /// Notes the room in which a client may not enter. Allocates nothing.

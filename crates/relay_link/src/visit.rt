@@ -29,8 +29,8 @@ pub struct Visit {
     /// The texts that it drew, in order: at most 3.
     pub texts: Vec<String>,
     pub outcome: VisitOutcome,
-    /// The place of its room in the hub ([`Hub::room_of`]), if it entered one.
-    pub place: Option<usize>,
+    /// The index of its room in the hub ([`Hub::room_of`]), if it entered one.
+    pub room_index: Option<usize>,
     /// What the hub's work cost, in microseconds ([`Hub::cost`]).
     pub cost: u64,
 }
@@ -71,7 +71,7 @@ impl Visit {
         };
         Ok(Visit {
             cost: hub.cost().saturating_sub(before),
-            place: events.place(),
+            room_index: events.room_index(),
             events: events.into_events(),
             texts,
             outcome,
@@ -100,7 +100,7 @@ fn stay(
     ensures few { length texts.new.items ≤ MAX_TEXTS }
     ensures adds { Adds (MAX_TEXTS + 2) 1 MAX_TEXTS events.old events.new }
 {
-    events.note_place(hub.room_of(opening.session));
+    events.note_room_index(hub.room_of(opening.session));
     let outcome = say(alloc, hub, opening, text, texts, events);
     events::close(hub, opening.session, events);
     outcome
