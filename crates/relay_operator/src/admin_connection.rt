@@ -62,9 +62,14 @@ impl<S: Read + Write + OpenStream + Drop> AdminConnection<S> {
         self.reply = Some(reply);
     }
 
-    /// Notes what it asks of a room.
-    pub(crate) fn ask_of_room(&mut self, request: RoomRequest) {
+    /// Notes what it asks of a room. Of an edit, the body may have come with the head.
+    pub(crate) fn ask_of_room(&mut self, request: RoomRequest) -> Found {
+        let found = match &request {
+            RoomRequest::Edit(_) => Found::More,
+            _ => Found::Nothing,
+        };
         self.asked = Some(request);
+        found
     }
 
     /// What it asks of a room, while that has no response and all of the request was received.

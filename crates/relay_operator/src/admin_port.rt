@@ -10,7 +10,6 @@ use crate::room_request::{self, Prepared, RoomRequest, RoomVisit};
 use relay_admin::{AdminRequest, Ask, Response, response_text};
 use relay_hub::{ForgetFault, Hub};
 use relay_link::{EntranceFault, Visit};
-use relay_proto::is_room_name;
 use std::alloc::{AllocError, Global};
 use std::io::{Read, Write};
 use std::mem;
@@ -94,30 +93,30 @@ where
             is_opening: false,
             is_stopping: false,
         };
-        let mut place = 0usize;
+        let mut index = 0usize;
         for _ in 0..self.connections.len() {
-            let (found, served) = self.turn_at(alloc, place, view);
+            let (found, served) = self.turn_at(alloc, index, view);
             turn.has_more = turn.has_more || found == Found::More;
             turn.is_opening = turn.is_opening || served == Some(AdminRequest::Open);
             turn.is_stopping = turn.is_stopping || served == Some(AdminRequest::Stop);
-            if found == Found::Over && place < self.connections.len() {
-                let _ = self.connections.remove(place);
+            if found == Found::Over && index < self.connections.len() {
+                let _ = self.connections.remove(index);
             } else {
-                place = place.saturating_add(1);
+                index = index.saturating_add(1);
             }
         }
         turn
     }
 
-    /// Gives the connection at a place a turn. Returns what it found, and the request that has its
+    /// Gives the connection at an index a turn. Returns what it found, and the request that has its
     /// response now. A connection for which there is no memory is over.
     fn turn_at(
         &mut self,
         alloc: Global,
-        place: usize,
+        index: usize,
         view: &AdminView<'_>,
     ) -> (Found, Option<AdminRequest>) {
-        let Some(connection) = self.connections.get_mut(place) else {
+        let Some(connection) = self.connections.get_mut(index) else {
             return (Found::Over, None);
         };
         if connection.is_answered() {
@@ -133,42 +132,35 @@ where
             Ok(Some(asked)) => asked,
             Ok(None) | Err(_) => return (Found::Over, None),
         };
-        let served = match &asked {
-            Ask::Request(request) => Some(*request),
-            _ => None,
+        match RoomRequest::of(asked) {
+            Ok(request) => (connection.ask_of_room(request), None),
+            Err(Ask::More) => (Found::Nothing, None),
+            Err(asked) => self.reply_at(alloc, index, &asked, view),
+        }
+    }
+
+    /// Gives the connection at an index the response to a request that asks nothing of a room.
+    /// Returns as [`AdminPort::turn_at`].
+    fn reply_at(
+        &mut self,
+        alloc: Global,
+        index: usize,
+        asked: &Ask,
+        view: &AdminView<'_>,
+    ) -> (Found, Option<AdminRequest>) {
+        let (served, reply) = match asked {
+            Ask::Request(request) => {
+                (Some(*request), view.reply(alloc, &self.counters, *request))
+            }
+            Ask::Refused(refusal) => (None, response_text(alloc, &Response::Refused(*refusal))),
+            _ => (None, response_text(alloc, &Response::NoRoom)),
         };
-        let reply = match asked {
-            Ask::More => return (Found::Nothing, None),
-            Ask::Admit(room) if is_room_name(room.as_str()) => {
-                connection.ask_of_room(RoomRequest::Open(room));
-                return (Found::Nothing, None);
-            }
-            Ask::Exclude(room) => {
-                connection.ask_of_room(RoomRequest::Close(room));
-                return (Found::Nothing, None);
-            }
-            Ask::Forget(room) => {
-                connection.ask_of_room(RoomRequest::Forget(room));
-                return (Found::Nothing, None);
-            }
-            Ask::Read(part) => {
-                connection.ask_of_room(RoomRequest::Read(part));
-                return (Found::Nothing, None);
-            }
-            Ask::Edit(edit) => {
-                connection.ask_of_room(RoomRequest::Edit(edit));
-                return (Found::More, None);
-            }
-            Ask::Request(request) => view.reply(alloc, &self.counters, request),
-            Ask::Admit(_) => response_text(alloc, &Response::NoRoom),
-            Ask::Refused(refusal) => response_text(alloc, &Response::Refused(refusal)),
-        };
-        match reply {
-            Ok(reply) => {
+        match (self.connections.get_mut(index), reply) {
+            (Some(connection), Ok(reply)) => {
                 connection.answer(reply);
                 (connection.tell(), served)
             }
-            Err(_) => (Found::Over, None),
+            (_, _) => (Found::Over, None),
         }
     }
 
@@ -177,8 +169,8 @@ where
         self.admission_at(self.first_to_admit()?)
     }
 
-    fn admission_at(&self, place: usize) -> Option<Admission<'_>> {
-        match self.connections.get(place)?.asked()? {
+    fn admission_at(&self, index: usize) -> Option<Admission<'_>> {
+        match self.connections.get(index)?.asked()? {
             RoomRequest::Open(room) => Some(Admission::Open(room.as_str())),
             RoomRequest::Close(room) => Some(Admission::Close(room.as_str())),
             _ => None,
@@ -188,14 +180,14 @@ where
     /// Responds to that connection, by what came of it. A connection for which there is no memory
     /// is dropped.
     pub fn answer_admission(&mut self, alloc: Global, came: Result<(), EntranceFault>) {
-        let Some(place) = self.first_to_admit() else {
+        let Some(index) = self.first_to_admit() else {
             return;
         };
-        let reply = match self.admission_at(place) {
+        let reply = match self.admission_at(index) {
             Some(asked) => response_text(alloc, &asked.response(came)),
             None => return,
         };
-        self.answer_at(place, reply);
+        self.answer_at(index, reply);
     }
 
     /// The room that the oldest connection which waits for that asked to be forgotten.
@@ -209,9 +201,9 @@ where
     /// Responds to that connection, by what came of it. A connection for which there is no memory
     /// is dropped.
     pub fn answer_forget(&mut self, alloc: Global, came: Result<u64, ForgetFault>) {
-        if let Some(place) = self.first_to_forget() {
+        if let Some(index) = self.first_to_forget() {
             let response = room_request::forgotten(came);
-            self.answer_at(place, response_text(alloc, &response));
+            self.answer_at(index, response_text(alloc, &response));
         }
     }
 
@@ -219,18 +211,18 @@ where
     /// before it that need none have their responses.
     pub fn next_visit(&mut self, alloc: Global, hub: &Hub) -> Option<RoomVisit> {
         for _ in 0..MAX_CONNECTIONS {
-            let place = self.first_to_visit()?;
-            match self.prepare_at(alloc, hub, place) {
+            let index = self.first_to_visit()?;
+            match self.prepare_at(alloc, hub, index) {
                 Ok(Prepared::Visit(visit)) => return Some(visit),
-                Ok(Prepared::Response(reply)) => self.answer_at(place, Ok(reply)),
-                Err(AllocError) => self.answer_at(place, Err(AllocError)),
+                Ok(Prepared::Response(reply)) => self.answer_at(index, Ok(reply)),
+                Err(AllocError) => self.answer_at(index, Err(AllocError)),
             }
         }
         None
     }
 
-    fn prepare_at(&self, alloc: Global, hub: &Hub, place: usize) -> Result<Prepared, AllocError> {
-        let connection = self.connections.get(place).ok_or(AllocError)?;
+    fn prepare_at(&self, alloc: Global, hub: &Hub, index: usize) -> Result<Prepared, AllocError> {
+        let connection = self.connections.get(index).ok_or(AllocError)?;
         match connection.asked() {
             Some(RoomRequest::Read(part)) => room_request::prepare_read(alloc, hub, part),
             Some(RoomRequest::Edit(edit)) => {
@@ -243,9 +235,9 @@ where
     /// Responds to that connection, by what came of its visit. A connection for which there is no
     /// memory is dropped.
     pub fn answer_visit(&mut self, alloc: Global, hub: &Hub, came: Result<Visit, AllocError>) {
-        if let Some(place) = self.first_to_visit() {
-            let reply = self.visited_at(alloc, hub, place, came);
-            self.answer_at(place, reply);
+        if let Some(index) = self.first_to_visit() {
+            let reply = self.visited_at(alloc, hub, index, came);
+            self.answer_at(index, reply);
         }
     }
 
@@ -253,25 +245,25 @@ where
         &self,
         alloc: Global,
         hub: &Hub,
-        place: usize,
+        index: usize,
         came: Result<Visit, AllocError>,
     ) -> Result<String, AllocError> {
-        let connection = self.connections.get(place).ok_or(AllocError)?;
+        let connection = self.connections.get(index).ok_or(AllocError)?;
         let request = connection.asked().ok_or(AllocError)?;
         room_request::visited(alloc, hub, request, &came?)
     }
 
-    /// Gives the connection at a place its response, if there was memory for one, and sends it.
-    fn answer_at(&mut self, place: usize, reply: Result<String, AllocError>) {
-        let found = match (self.connections.get_mut(place), reply) {
+    /// Gives the connection at an index its response, if there was memory for one, and sends it.
+    fn answer_at(&mut self, index: usize, reply: Result<String, AllocError>) {
+        let found = match (self.connections.get_mut(index), reply) {
             (Some(connection), Ok(reply)) => {
                 connection.answer(reply);
                 connection.tell()
             }
             (_, _) => Found::Over,
         };
-        if found == Found::Over && place < self.connections.len() {
-            let _ = self.connections.remove(place);
+        if found == Found::Over && index < self.connections.len() {
+            let _ = self.connections.remove(index);
         }
         self.is_behind = self.is_behind || found == Found::More;
     }
@@ -281,7 +273,7 @@ where
         self.is_behind || self.first_to_visit().is_some()
     }
 
-    /// The place of the oldest connection that asks for a room to be opened or closed.
+    /// The index of the oldest connection that asks for a room to be opened or closed.
     fn first_to_admit(&self) -> Option<usize> {
         self.connections.iter().position(|connection| {
             matches!(
@@ -291,7 +283,7 @@ where
         })
     }
 
-    /// The place of the oldest connection that asks for a room to be forgotten.
+    /// The index of the oldest connection that asks for a room to be forgotten.
     fn first_to_forget(&self) -> Option<usize> {
         self.connections.iter().position(|connection| matches!(
             connection.asked(),
@@ -299,7 +291,7 @@ where
         ))
     }
 
-    /// The place of the oldest connection that asks to read or to edit a room.
+    /// The index of the oldest connection that asks to read or to edit a room.
     fn first_to_visit(&self) -> Option<usize> {
         self.connections.iter().position(|connection| {
             matches!(

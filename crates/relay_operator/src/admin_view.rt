@@ -15,7 +15,7 @@ pub struct AdminView<'v> {
     pub is_closed: bool,
     /// The rooms from which clients were turned away since they are not open.
     pub wanted: &'v [String],
-    /// By a room's place in the hub, the second in which a session last left it; 0 beyond the end.
+    /// By a room's index in the hub, the second in which a session last left it; 0 beyond the end.
     pub left: &'v [u64],
     /// The present second.
     pub second: u64,
@@ -125,8 +125,8 @@ impl AdminView<'_> {
             weight: 0,
             history: 0,
         };
-        for place in 0..MAX_ROOMS as usize {
-            let Some(room) = self.hub.room_at(place) else {
+        for index in 0..MAX_ROOMS as usize {
+            let Some(room) = self.hub.room_at(index) else {
                 return totals;
             };
             totals.rooms = totals.rooms.saturating_add(1);
@@ -139,18 +139,18 @@ impl AdminView<'_> {
     }
 
     /// For how many seconds nobody has been in a room with so many sessions, if nobody is.
-    fn empty_for(&self, place: usize, sessions: usize) -> Option<u64> {
+    fn empty_for(&self, index: usize, sessions: usize) -> Option<u64> {
         if sessions > 0 {
             return None;
         }
-        let left = self.left.get(place).copied().unwrap_or(0);
+        let left = self.left.get(index).copied().unwrap_or(0);
         Some(self.second.saturating_sub(left))
     }
 
     fn rooms(&self, alloc: Global) -> Result<String, AllocError> {
         let mut out = begin_rooms(alloc)?;
-        for place in 0..MAX_ROOMS as usize {
-            let Some(room) = self.hub.room_at(place) else {
+        for index in 0..MAX_ROOMS as usize {
+            let Some(room) = self.hub.room_at(index) else {
                 return end_rooms(out);
             };
             let row = RoomRow {
@@ -158,7 +158,7 @@ impl AdminView<'_> {
                 revision: room.revision,
                 sessions: room.sessions as u64,
                 weight: room.weight,
-                empty: self.empty_for(place, room.sessions),
+                empty: self.empty_for(index, room.sessions),
             };
             write_room(&mut out, &row)?;
         }

@@ -28,20 +28,20 @@ impl LongestRound {
     pub(crate) fn note(&mut self, now: Duration, worked: Duration) {
         let part = now.as_secs() / SECONDS;
         self.forget(part);
-        let place = (part % PARTS as u64) as usize;
+        let index = (part % PARTS as u64) as usize;
         let micros = worked
             .as_secs()
             .saturating_mul(1_000_000)
             .saturating_add(u64::from(worked.subsec_micros()));
-        self.parts[place] = self.parts[place].max(micros);
+        self.parts[index] = self.parts[index].max(micros);
     }
 
     /// Makes `part` the newest one, and empties those that come anew.
     fn forget(&mut self, part: u64) {
         let anew = part.saturating_sub(self.newest).min(PARTS as u64);
         for back in 0..anew {
-            let place = (part.saturating_sub(back) % PARTS as u64) as usize;
-            self.parts[place] = 0;
+            let index = (part.saturating_sub(back) % PARTS as u64) as usize;
+            self.parts[index] = 0;
         }
         self.newest = part;
     }

@@ -1,11 +1,11 @@
 //! What is asked of a room, and the response by what came of it.
 use relay_admin::{
-    EditRequest, NOT_JSON, NotForgotten, Outcome, PartRequest, Response, RevisionTag, Unavailable,
-    edit_text, outcome_of, response_text, shown_value, watch_text,
+    Ask, EditRequest, NOT_JSON, NotForgotten, Outcome, PartRequest, Response, RevisionTag,
+    Unavailable, edit_text, outcome_of, response_text, shown_value, watch_text,
 };
 use relay_hub::{ForgetFault, Hub, OpenFault, Text};
 use relay_link::{Visit, VisitOutcome};
-use relay_proto::Access;
+use relay_proto::{Access, is_room_name};
 use std::alloc::{AllocError, Global};
 
 /// What a connection asks of a room.
@@ -21,6 +21,20 @@ pub(crate) enum RoomRequest {
     Read(PartRequest),
     /// `PATCH`: an edit, by the patch in the request's body.
     Edit(EditRequest),
+}
+
+impl RoomRequest {
+    /// What is asked of a room. If nothing is, or a name that is none of a room, it is returned.
+    pub(crate) fn of(asked: Ask) -> Result<RoomRequest, Ask> {
+        match asked {
+            Ask::Admit(room) if is_room_name(room.as_str()) => Ok(RoomRequest::Open(room)),
+            Ask::Exclude(room) => Ok(RoomRequest::Close(room)),
+            Ask::Forget(room) => Ok(RoomRequest::Forget(room)),
+            Ask::Read(part) => Ok(RoomRequest::Read(part)),
+            Ask::Edit(edit) => Ok(RoomRequest::Edit(edit)),
+            asked => Err(asked),
+        }
+    }
 }
 
 /// A visit that answers a request ([`Visit::make`]).

@@ -2,5 +2,5 @@
 use Rattle.std.proofs.Common.{◌≡◌, []}
 use Rattle.relay_operator.proofs.admin_view.AdminView.rooms.Given as goal
 
-abbrev pub invariant-loop-place : goal.invariant-loop-place
-invariant-loop-place l = l.out.before ≡ []
+abbrev pub invariant-loop-index : goal.invariant-loop-index
+invariant-loop-index l = l.out.before ≡ []
