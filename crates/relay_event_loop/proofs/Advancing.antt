@@ -12,15 +12,15 @@ use Rattle.relay_event_loop.specs.Advances.{Links, Advances, stays, turns, adds,
 use Rattle.relay_event_loop.specs.Rounds.{Rounds}
 use Rattle.relay_event_loop.proofs.Owners.{connected_after}
 
-module _ {S : Type 0} {remaining : S → Option (List ℕ)} where
+module _ {S : Type 0} {remaining contents : S → Option (List ℕ)} where
   -- links are the same if each key's is
   pub advances_same : {hub next : State} {old held new : Links S}
-      → Advances remaining hub old next held → ((key : ℕ) → new key ≡ held key)
-      → Advances remaining hub old next new
+      → Advances remaining contents hub old next held → ((key : ℕ) → new key ≡ held key)
+      → Advances remaining contents hub old next new
   advances_same (stays was) same = stays (λ key. same key ∙ was key)
-  advances_same (turns before key events had has others follows received passes) same =
+  advances_same (turns before key events had has others follows received passes sends) same =
       turns before key events had (same key ∙ has) (λ other apart.
-      same other ∙ others other apart) follows received passes
+      same other ∙ others other apart) follows received passes sends
   advances_same (adds before key had has others fresh) same =
       adds before key had (same key ∙ has) (λ other apart. same other ∙ others other apart) fresh
   advances_same (removes before key had has others bare) same =
@@ -33,11 +33,11 @@ module _ {S : Type 0} {remaining : S → Option (List ℕ)} where
 
   -- one after the other
   pub advances_then : {hub mid next : State} {old held new : Links S}
-      → Advances remaining hub old mid held → Advances remaining mid held next new
-      → Advances remaining hub old next new
+      → Advances remaining contents hub old mid held → Advances remaining contents mid held next new
+      → Advances remaining contents hub old next new
   advances_then before (stays same) = advances_same before same
-  advances_then before (turns after key events had has others follows received passes) =
-      turns (advances_then before after) key events had has others follows received passes
+  advances_then before (turns after key events had has others follows received passes sends) =
+      turns (advances_then before after) key events had has others follows received passes sends
   advances_then before (adds after key had has others fresh) =
       adds (advances_then before after) key had has others fresh
   advances_then before (removes after key had has others bare) =
@@ -56,13 +56,13 @@ follows_stand b E stands (makes {q = q} {hub = hub} event answer before own step
     step_stands b (with_events before E) q.hub hub event answer (follows_stand b E stands before)
     step
 
-module _ {S : Type 0} {remaining : S → Option (List ℕ)} where
+module _ {S : Type 0} {remaining contents : S → Option (List ℕ)} where
   -- the same after several links' events
   pub advances_stand : (b : HubConfig) (E : Log) {hub next : State} {old new : Links S}
-      → StandsFor b E hub → (advances : Advances remaining hub old next new)
+      → StandsFor b E hub → (advances : Advances remaining contents hub old next new)
       → StandsFor b (with_turns advances E) next
   advances_stand b E stands (stays same) = stands
-  advances_stand b E stands (turns before key events had has others follows received passes) =
+  advances_stand b E stands (turns before key events had has others follows received passes sends) =
       follows_stand b (with_turns before E) (advances_stand b E stands before) follows
   advances_stand b E stands (adds before key had has others fresh) =
       advances_stand b E stands before
@@ -77,8 +77,8 @@ module _ {S : Type 0} {remaining : S → Option (List ℕ)} where
       step
 
 -- and each client that watches holds what is so
-module _ {S : Type 0} {remaining : S → Option (List ℕ)} {hub next : State} {old new : Links S}
-    (advances : Advances remaining hub old next new) (b : HubConfig) (E : Log)
+module _ {S : Type 0} {remaining contents : S → Option (List ℕ)} {hub next : State} {old new : Links S}
+    (advances : Advances remaining contents hub old next new) (b : HubConfig) (E : Log)
     (stands : StandsFor b E hub) where
   pub exact_after : EachHoldsPresent b (with_turns advances E) next
   exact_after s name g x w there is watches =
@@ -92,9 +92,9 @@ module _ {S : Type 0} {remaining : S → Option (List ℕ)} {hub next : State} {
 
 -- what follows from turns of links
 pub
-    rounds_of : {S : Type 0} {remaining : S → Option (List ℕ)} {hub next : State}
-    {old new : Links S} → Advances remaining hub old next new
-    → Rounds remaining hub old next new
+    rounds_of : {S : Type 0} {remaining contents : S → Option (List ℕ)} {hub next : State}
+    {old new : Links S} → Advances remaining contents hub old next new
+    → Rounds remaining contents hub old next new
 rounds_of advances = record {
   advances = advances;
   stands = λ b E stands. advances_stand b E stands advances;
@@ -103,10 +103,10 @@ rounds_of advances = record {
   connected = connected_after advances;
 }
 
-pub no_rounds : {S : Type 0} {remaining : S → Option (List ℕ)} {hub : State} {links : Links S}
-    → Rounds remaining hub links hub links
-no_rounds {remaining = remaining} {hub = hub} {links = links} =
-    let none : Advances remaining hub links hub links = stays (λ key. refl) in
+pub no_rounds : {S : Type 0} {remaining contents : S → Option (List ℕ)} {hub : State} {links : Links S}
+    → Rounds remaining contents hub links hub links
+no_rounds {remaining = remaining} {contents = contents} {hub = hub} {links = links} =
+    let none : Advances remaining contents hub links hub links = stays (λ key. refl) in
     record {
       advances = none;
       stands = λ b E stands. stands;

@@ -15,16 +15,20 @@ use Rattle.relay_hub.specs.declared.fault.ForgetFault.{ForgetFault}
 use Rattle.relay_link.specs.Asks.{asked_by, IsFresh, Receives}
 use Rattle.relay_link.specs.Follows.{Follows, at, no_room, closing_of}
 use Rattle.relay_link.specs.Hears.{PassesTexts}
+use Rattle.relay_link.specs.Replies.{Replies}
 use Rattle.relay_link.proofs.Following.{follows_none}
 use Rattle.relay_link.proofs.Hearing.{passes_ended}
 use Rattle.relay_link.specs.Stage.{stage_of, session_of}
 use Rattle.relay_link.specs.Visits.{Visits}
+use Rattle.relay_link.specs.declared.entrance.Entrance.{Entrance}
+use Rattle.relay_link.specs.declared.entrance.Entrance.TheVariants as entry
 use Rattle.relay_link.specs.declared.stage.Stage.TheVariants as stage
 use Rattle.relay_link.specs.declared.state.State.{State as Link}
 use Rattle.relay_link.specs.declared.state.State.TheVariants.{Head, Replying, Open, Closing, Gone}
 use Rattle.relay_link.specs.declared.visit.Visit.{Visit}
 use Rattle.relay_proto.specs.declared.access.Access.{Access}
 use Rattle.relay_event_loop.specs.Advances.{Links, IsNew, links_of, Advances, stays, turns, adds, removes, visits, sheds, acts, IsOfHouse}
+use Rattle.relay_link.proofs.Sending.{Framed, sending_by, gone_framed, gone_replies}
 use Rattle.relay_event_loop.specs.declared.connection.Connection.{Connection}
 use Rattle.relay_event_loop.specs.declared.ready.TrackedStream.{TrackedStream}
 
@@ -77,8 +81,8 @@ pub no_more_then : (new mid old : ℕ) → new ≤ mid → mid ≤ old → new �
 no_more_then new mid old after before = omega (arith, after, before)
 
 -- Nothing changed.
-pub none_changed : {S : Type 0} {remaining : S → Option (List ℕ)} {hub : State} {links : Links S}
-    → Advances remaining hub links hub links
+pub none_changed : {S : Type 0} {remaining contents : S → Option (List ℕ)} {hub : State} {links : Links S}
+    → Advances remaining contents hub links hub links
 none_changed = stays (λ key. refl)
 
 module _ {S : Type 0} (held : Slab (Connection S)) (key : ℕ) (was is : Connection S)
@@ -94,98 +98,103 @@ module _ {S : Type 0} (held : Slab (Connection S)) (key : ℕ) (was is : Connect
       let found : get_or held.slots key None ≡ Some was = there in
       omega (arith, sums, ap is_one found)
 
-  module _ {remaining : TrackedStream S → Option (List ℕ)} where
+  module _ {remaining contents : TrackedStream S → Option (List ℕ)} where
     -- A connection changed, and its link did not.
     pub woken : (hub : State) → is.link ≡ was.link
-        → Advances remaining hub (links_of held) hub (links_of (with_value held key is))
+        → Advances remaining contents hub (links_of held) hub (links_of (with_value held key is))
     woken hub same =
         stays (updated_same held (with_value held key is) key (Some is) written (ap Some same
         ∙ sym (ap of there)))
 
     -- A call on its link changed nothing.
     pub unmoved : (hub next : State) → next ≡ hub → is.link ≡ was.link
-        → Advances remaining hub (links_of held) next (links_of (with_value held key is))
+        → Advances remaining contents hub (links_of held) next (links_of (with_value held key is))
     unmoved hub next same link =
-        subst (λ h. Advances remaining hub (links_of held) h (links_of (with_value held key is)))
+        subst (λ h. Advances remaining contents hub (links_of held) h (links_of (with_value held key is)))
         (sym same) (woken hub link)
 
     -- Its link made a turn.
-    pub turned : (hub next : State) (events : List Event)
+    pub turned : (hub next : State) (events : List Event) (entrance : Entrance)
         → Follows (asked_by remaining was.link) (at hub (session_of was.link) [])
         (at next (session_of is.link) events)
         → Receives remaining was.link is.link
         → PassesTexts remaining 1 hub was.link is.link [] events
-        → Advances remaining hub (links_of held) next (links_of (with_value held key is))
-    turned hub next events follows received passes =
-        turns (stays (λ other.
-        refl)) key events (ap of there) (ap of written.changed)
-        (updated_others held (with_value held key is) key (Some is) written) follows received
-        passes
+        → Framed remaining contents hub next events was.link is.link
+        → Replies remaining contents entrance was.link is.link
+        → Advances remaining contents hub (links_of held) next (links_of (with_value held key is))
+    turned hub next events entrance follows received passes framed replies =
+        let by = sending_by remaining contents hub next events was.link is.link entrance follows
+        framed replies in
+        turns (stays (λ other. refl)) key events (ap of there) (ap of written.changed)
+        (updated_others held (with_value held key is) key (Some is) written) by.follows received
+        passes by.sends
 
     -- Its link ended.
     pub ended : (hub next : State) (events : List Event)
         → Follows no_room (at hub (session_of was.link) []) (at next (session_of is.link) events)
         → events ≡ closing_of (session_of was.link) → stage_of is.link ≡ stage.Gone
-        → Advances remaining hub (links_of held) next (links_of (with_value held key is))
+        → Advances remaining contents hub (links_of held) next (links_of (with_value held key is))
     ended hub next events follows closes gone =
-        turned hub next events (follows_none follows)
+        turned hub next events entry.Open (follows_none follows)
         (gone_receives remaining was.link is.link gone)
         (passes_ended remaining hub was.link is.link events closes gone)
+        (gone_framed remaining contents hub next events was.link is.link gone)
+        (gone_replies remaining contents hub next events was.link is.link gone)
 
 -- A new connection was added.
-pub added : {S : Type 0} {remaining : TrackedStream S → Option (List ℕ)} (held new : Slab (Connection S))
+pub added : {S : Type 0} {remaining contents : TrackedStream S → Option (List ℕ)} (held new : Slab (Connection S))
     (key : ℕ) (connection : Connection S) (hub : State) → get held key ≡ None
     → Updates held new key (Some connection) → IsNew connection.link
-    → Advances remaining hub (links_of held) hub (links_of new)
+    → Advances remaining contents hub (links_of held) hub (links_of new)
 added held new key connection hub vacant updates fresh =
     adds (stays (λ other.
     refl)) key (ap of vacant) (ap of updates.changed)
     (updated_others held new key (Some connection) updates) fresh
 
 -- A connection whose link is gone was removed.
-pub removed : {S : Type 0} {remaining : TrackedStream S → Option (List ℕ)}
+pub removed : {S : Type 0} {remaining contents : TrackedStream S → Option (List ℕ)}
     (held new : Slab (Connection S)) (key : ℕ) (was : Connection S) (hub : State)
     → get held key ≡ Some was
     → stage_of was.link ≡ stage.Gone → Updates held new key None
-    → Advances remaining hub (links_of held) hub (links_of new)
+    → Advances remaining contents hub (links_of held) hub (links_of new)
 removed held new key was hub there gone updates =
     removes (stays (λ other.
     refl)) key (ap of there) (ap of updates.changed)
     (updated_others held new key None updates) (gone_is_none was.link gone)
 
 -- The hub gave memory back.
-pub shed_back : {S : Type 0} {remaining : S → Option (List ℕ)} (hub : State) (links : Links S)
-    → Advances remaining hub links (shed hub) links
+pub shed_back : {S : Type 0} {remaining contents : S → Option (List ℕ)} (hub : State) (links : Links S)
+    → Advances remaining contents hub links (shed hub) links
 shed_back hub links = sheds (stays (λ key. refl))
 
 -- An event of the house, if it was carried out.
-acted : {S : Type 0} {remaining : S → Option (List ℕ)} (hub next : State) (links : Links S)
+acted : {S : Type 0} {remaining contents : S → Option (List ℕ)} (hub next : State) (links : Links S)
     (event : Event) (answer : Option Answer) → IsOfHouse event → StepIf hub event answer next
-    → Advances remaining hub links next links
-acted {remaining = remaining} hub next links event (Some answer) of_house step =
+    → Advances remaining contents hub links next links
+acted {remaining = remaining} {contents = contents} hub next links event (Some answer) of_house step =
     acts (stays (λ key. refl)) event answer of_house step
-acted {remaining = remaining} hub next links event None of_house step =
-    subst (λ h. Advances remaining hub links h links) (sym step) (stays (λ key. refl))
+acted {remaining = remaining} {contents = contents} hub next links event None of_house step =
+    subst (λ h. Advances remaining contents hub links h links) (sym step) (stays (λ key. refl))
 
 -- A will was done, or memory was refused.
-pub willed : {S : Type 0} {remaining : S → Option (List ℕ)} (hub next : State) (links : Links S)
+pub willed : {S : Type 0} {remaining contents : S → Option (List ℕ)} (hub next : State) (links : Links S)
     (result : Result (Option ℕ) AllocError) → StepIf hub DoWill (doing_will result) next
-    → Advances remaining hub links next links
+    → Advances remaining contents hub links next links
 willed hub next links result step = acted hub next links DoWill (doing_will result) tt step
 
 -- A room was forgotten, or not.
-pub forgotten : {S : Type 0} {remaining : S → Option (List ℕ)} (hub next : State) (links : Links S)
+pub forgotten : {S : Type 0} {remaining contents : S → Option (List ℕ)} (hub next : State) (links : Links S)
     (name : List ℕ) (result : Result ℕ ForgetFault)
-    → StepIf hub (Forget name) (forgetting result) next → Advances remaining hub links next links
+    → StepIf hub (Forget name) (forgetting result) next → Advances remaining contents hub links next links
 forgotten hub next links name result step =
     acted hub next links (Forget name) (forgetting result) tt step
 
 -- A visit was made, or not.
-pub visited : {S : Type 0} {remaining : S → Option (List ℕ)} (hub next : State) (links : Links S)
+pub visited : {S : Type 0} {remaining contents : S → Option (List ℕ)} (hub next : State) (links : Links S)
     (room : List ℕ) (access : Access) (text : List ℕ) (result : Result Visit AllocError)
     → IfOk result (λ visit. Visits room access text hub next visit) → OnErr result (next ≡ hub)
-    → Advances remaining hub links next links
+    → Advances remaining contents hub links next links
 visited hub next links room access text (Ok visit) made unchanged =
     visits (stays (λ key. refl)) room access text visit made
-visited {remaining = remaining} hub next links room access text (Err e) made unchanged =
-    subst (λ h. Advances remaining hub links h links) (sym unchanged) (stays (λ key. refl))
+visited {remaining = remaining} {contents = contents} hub next links room access text (Err e) made unchanged =
+    subst (λ h. Advances remaining contents hub links h links) (sym unchanged) (stays (λ key. refl))

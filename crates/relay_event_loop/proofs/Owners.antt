@@ -339,8 +339,8 @@ one_guest sessions {p = p} {q = q} follows bare gone is each =
     let after = one_each_same (λ t. refl) (none q.session gone) done.1 in
     (done.0, guest_leaves q.hub sessions after)
 
-module _ {S : Type 0} {remaining : S → Option (List ℕ)} where
-  advance_each : {hub next : State} {old new : Links S} → Advances remaining hub old next new
+module _ {S : Type 0} {remaining contents : S → Option (List ℕ)} where
+  advance_each : {hub next : State} {old new : Links S} → Advances remaining contents hub old next new
       → IsHub hub → OneEach hub (sessions_in old)
       → IsHub next × OneEach next (sessions_in new)
   advance_each (stays same) is each =
@@ -381,7 +381,7 @@ module _ {S : Type 0} {remaining : S → Option (List ℕ)} where
       (step_is_hub mid next event answer earlier.0 step, one_each_same same (λ k. refl) earlier.1)
 
   pub connected_after : {hub next : State} {old new : Links S}
-      → Advances remaining hub old next new → Connected hub (sessions_in old)
+      → Advances remaining contents hub old next new → Connected hub (sessions_in old)
       → Connected next (sessions_in new)
   connected_after advances was = advance_each advances was.0 was.1
 

@@ -11,7 +11,7 @@ use Rattle.relay_hub.specs.declared.event.Answer.{Answer}
 use Rattle.relay_hub.specs.declared.event.Event.{Event}
 use Rattle.relay_hub.specs.declared.event.Event.TheVariants.{DoWill, Forget}
 use Rattle.relay_link.specs.Asks.{asked_by, Receives}
-use Rattle.relay_link.specs.Follows.{Follows, at, with_events}
+use Rattle.relay_link.specs.Follows.{Follows, at, with_events, drawn}
 use Rattle.relay_link.specs.Hears.{PassesTexts}
 use Rattle.relay_link.specs.Stage.{session_of}
 use Rattle.relay_link.specs.Visits.{Visits}
@@ -20,7 +20,8 @@ use Rattle.relay_link.specs.declared.state.State.TheVariants.{Head}
 use Rattle.relay_link.specs.declared.visit.Visit.{Visit}
 use Rattle.relay_proto.specs.declared.access.Access.{Access}
 use Rattle.relay_event_loop.specs.Connections.{connections_of, limit_of}
-use Rattle.relay_event_loop.specs.Ready.{left_of}
+use Rattle.relay_event_loop.specs.Ready.{left_of, contents_of}
+use Rattle.relay_link.specs.Sends.{Sends}
 use Rattle.relay_event_loop.specs.declared.connection.Connection.{Connection}
 use Rattle.relay_event_loop.specs.declared.ready.TrackedStream.{TrackedStream}
 use Rattle.relay_event_loop.specs.declared.server.Server.{Server}
@@ -55,23 +56,25 @@ IsOfHouse DoWill = ⊤
 IsOfHouse (Forget name) = ⊤
 IsOfHouse event = ⊥
 
-module _ {S : Type 0} (remaining : S → Option (List ℕ)) where
+module _ {S : Type 0} (remaining contents : S → Option (List ℕ)) where
   -- The second hub, with its links, is reached from the first. The hub changes by turns of links,
   -- whose events are each the link's own, by visits, whose events are those of a session that no
   -- link has, by events of the house, and by giving memory back alone.
   -- A session is opened only in the room that the link's head asks for. The head is what the link
   -- has received since it was added, and then what the turn reads. A text of a session is one that
   -- its link read from its WebSocket, which reads on from turn to turn, and reads nothing while the
-  -- hub may not hear the session.
+  -- hub may not hear the session. The stream of a link is given the reply to its head, and then the
+  -- frames of the texts that these events drew for its session.
   pub data Advances : State → Links S → State → Links S → Type 0 where
     stays : {hub : State} {old new : Links S} → ((key : ℕ) → new key ≡ old key)
         → Advances hub old hub new
     turns : {hub mid next : State} {old held new : Links S} {was is : Link S}
         → Advances hub old mid held → (key : ℕ) (events : List Event)
         → held key ≡ Some was → new key ≡ Some is → Others key held new
-        → Follows (asked_by remaining was) (at mid (session_of was) [])
-        (at next (session_of is) events) → Receives remaining was is
-        → PassesTexts remaining 1 mid was is [] events → Advances hub old next new
+        → (follows : Follows (asked_by remaining was) (at mid (session_of was) [])
+        (at next (session_of is) events)) → Receives remaining was is
+        → PassesTexts remaining 1 mid was is [] events
+        → Sends remaining contents mid was events is (drawn follows) → Advances hub old next new
     adds : {hub mid : State} {old held new : Links S} {is : Link S} → Advances hub old mid held
         → (key : ℕ)
         → held key ≡ None → new key ≡ Some is → Others key held new → IsNew is
@@ -89,12 +92,12 @@ module _ {S : Type 0} (remaining : S → Option (List ℕ)) where
         → (event : Event) (answer : Answer)
         → IsOfHouse event → Step mid event answer next → Advances hub old next new
 
-module _ {S : Type 0} {remaining : S → Option (List ℕ)} where
+module _ {S : Type 0} {remaining contents : S → Option (List ℕ)} where
   -- a log with the entries of all events
   abbrev pub with_turns : {hub next : State} {old new : Links S}
-      → Advances remaining hub old next new → Log → Log
+      → Advances remaining contents hub old next new → Log → Log
   with_turns (stays same) E = E
-  with_turns (turns before key events had has others follows received passes) E =
+  with_turns (turns before key events had has others follows received passes sends) E =
       with_events follows (with_turns before E)
   with_turns (adds before key had has others fresh) E = with_turns before E
   with_turns (removes before key had has others bare) E = with_turns before E
@@ -103,13 +106,13 @@ module _ {S : Type 0} {remaining : S → Option (List ℕ)} where
   with_turns (sheds before) E = with_turns before E
   with_turns (acts before event answer of_house step) E = entry event answer ∷ with_turns before E
 
-module _ {S R : Type 0} (remaining : S → Option (List ℕ)) where
+module _ {S R : Type 0} (remaining contents : S → Option (List ℕ)) where
   -- from one server to another: the hub advances, and the limit on connections stays
   abbrev pub Keeps : Server S R → Server S R → Type 0
   Keeps old new =
       (new.most ≡ old.most)
-      × Advances (left_of remaining) old.hub (links_of old.connections) new.hub
-      (links_of new.connections)
+      × Advances (left_of remaining) (contents_of contents) old.hub (links_of old.connections)
+      new.hub (links_of new.connections)
 
   -- it holds no more connections than before
   abbrev pub KeepsFewer : Server S R → Server S R → Type 0

@@ -40,7 +40,7 @@ pub(crate) struct Connection<S: Write + Drop> {
     /// something to read in the stream.
     pub read_pending: bool,
     /// Its position in the order of arrival, from 0.
-    pub place: u64,
+    pub arrival: u64,
     /// The round in which it was accepted.
     pub since: u64,
     standing: Cell<Standing>,
@@ -49,9 +49,9 @@ pub(crate) struct Connection<S: Write + Drop> {
     /// The session that was opened for it, also once that is closed.
     opened: Option<u64>,
     /// The room of that session: its name, for which the memory is taken at the beginning, and its
-    /// place in the hub.
+    /// index in the hub.
     room: String,
-    room_place: Option<usize>,
+    room_index: Option<usize>,
     /// Why the hub opened none.
     fault: Option<OpenFault>,
 }
@@ -64,7 +64,7 @@ impl<S: Read + Write + Drop> Connection<S> {
         stream: S,
         peer: SocketAddr,
         credit: Credit,
-        place: u64,
+        arrival: u64,
         since: u64,
     ) -> Result<Connection<S>, AllocError>
         ensures { IfOk result (λ connection. IsNew connection.link) }
@@ -75,7 +75,7 @@ impl<S: Read + Write + Drop> Connection<S> {
             link: Link::new(alloc, stream)?,
             readiness,
             read_pending: true,
-            place,
+            arrival,
             since,
             standing: Cell::new(Standing {
                 credit,
@@ -86,19 +86,19 @@ impl<S: Read + Write + Drop> Connection<S> {
             peer,
             opened: None,
             room,
-            room_place: None,
+            room_index: None,
             fault: None,
         })
     }
 
-    /// Notes the session that the link has now, its room, and the room's place in the hub.
-    pub(crate) fn note_opened(&mut self, room: &str, place: Option<usize>)
+    /// Notes the session that the link has now, its room, and the room's index in the hub.
+    pub(crate) fn note_opened(&mut self, room: &str, index: Option<usize>)
         ensures { self.new.link ≡ self.old.link }
     {
         self.opened = self.link.session();
         self.room.clear();
         let _ = self.room.push_str(room);
-        self.room_place = place;
+        self.room_index = index;
     }
 
     /// Notes why the hub opened no session.
@@ -127,9 +127,9 @@ impl<S: Read + Write + Drop> Connection<S> {
         }
     }
 
-    /// The place of the room in which a session was opened for it.
-    pub(crate) fn room_place(&self) -> Option<usize> {
-        self.room_place
+    /// The index of the room in which a session was opened for it.
+    pub(crate) fn room_index(&self) -> Option<usize> {
+        self.room_index
     }
 
     /// Why its handshake was refused with this status. A hub that was not asked for a session gave

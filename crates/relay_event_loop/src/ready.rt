@@ -1,6 +1,6 @@
 //! A stream, together with its readiness as the system last reported it, and with how much was read
 //! of it and written to it.
-ghost use Rattle.relay_event_loop.specs.Ready.{left_of};
+ghost use Rattle.relay_event_loop.specs.Ready.{left_of, contents_of};
 
 use relay_operator::StreamReady;
 use std::alloc::{AllocError, Global};
@@ -150,7 +150,7 @@ impl<S: Read> Read for TrackedStream<S> {
 }
 
 impl<S: Write> Write for TrackedStream<S> {
-    ghost contents = { λ w. S.contents w.stream };
+    ghost contents = { contents_of S.contents };
 
     fn write(&mut self, buf: &[u8]) -> io::Result<usize> {
         if !self.readiness.is_writable() {

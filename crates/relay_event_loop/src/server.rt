@@ -20,7 +20,7 @@ mod writing;
 use crate::connection::Connection;
 use crate::connection_log::ConnectionLog;
 use crate::wanted_rooms::WantedRooms;
-use forgetting::RoomPlaces;
+use forgetting::RoomVacancies;
 use indexmap::IndexMap;
 use relay_hub::{Hub, HubConfig};
 use relay_link::Entrance;
@@ -77,8 +77,8 @@ pub struct Server<S: Write + Drop, R> {
     queues: Queues,
     /// How far each room is read ahead.
     rooms: RoomShares,
-    /// Which rooms make place for others.
-    places: RoomPlaces,
+    /// Which room is forgotten for another one.
+    vacancies: RoomVacancies,
     /// What all links hold of output.
     output: OutputTotal,
     /// How many texts were passed to the hub, and how many wills were done.
@@ -91,7 +91,7 @@ pub struct Server<S: Write + Drop, R> {
     seconds: u64,
     /// The first round in which the log may say again that memory was refused.
     next_shed_entry: u64,
-    /// The `place` of the next connection.
+    /// The `arrival` of the next connection.
     accepted: u64,
 }
 
@@ -119,7 +119,7 @@ impl<S: Read + Write + OpenStream + Drop, R: Readiness<S>> Server<S, R> {
             failed: false,
             queues: Queues::new(alloc),
             rooms: RoomShares::new(alloc, share_limits(config)),
-            places: RoomPlaces::new(alloc),
+            vacancies: RoomVacancies::new(alloc),
             output: OutputTotal::within(most_output),
             texts: 0,
             wills: 0,
@@ -144,10 +144,10 @@ impl<S: Read + Write + OpenStream + Drop, R: Readiness<S>> Server<S, R> {
     ///
     /// - accepts up to 8 waiting connections. If [`connection_limit`] are held already, the oldest
     ///   one without a session is ended. A connection that cannot be accepted or held is dropped;
-    /// - reads: each connection that has credit, may have input, and whose room has place gets a
-    ///   read turn; the one that had its turn last comes last. The turn passes at most one text to
-    ///   the hub, and draws its reply, which is corked. This repeats until nobody reads, or the
-    ///   turns have cost 5 ms;
+    /// - reads: each connection that has credit, may have input, and whose room may be read ahead
+    ///   gets a read turn; the one that had its turn last comes last. The turn passes at most one
+    ///   text to the hub, and draws its reply, which is corked. This repeats until nobody reads, or
+    ///   the turns have cost 5 ms;
     /// - writes: each link with corked output, and then each for which something waits, whose
     ///   stream is writable, gets a write turn, which draws and sends up to 32 messages, each time
     ///   starting with the one that has waited longest. Once the first pass has drawn 256 KiB, or
@@ -155,13 +155,13 @@ impl<S: Read + Write + OpenStream + Drop, R: Readiness<S>> Server<S, R> {
     /// - reads likewise from connections that owe, from one at least, until the turns of the round
     ///   have cost 5 ms;
     /// - does the wills of the sessions that were closed: one at least, and others until the turns
-    ///   of the round have cost 5 ms, or the last one's room has no place. What is left is done in
-    ///   the next round, which does not wait. Out of memory leaves a will likewise;
+    ///   of the round have cost 5 ms, or the last one's room may not be read ahead. What is left is
+    ///   done in the next round, which does not wait. Out of memory leaves a will likewise;
     /// - writes again, if anything was read or done since;
-    /// - forgets a room, if no place is left for another one ([`Server::forget_rooms`]).
+    /// - forgets a room, if none is left for another name ([`Server::forget_rooms`]).
     ///
     /// A turn takes what it cost from the credit of its connection, and each round of credit gives
-    /// the same to all ([`relay_schedule::ReadyQueue`]). A room has place if none of its
+    /// the same to all ([`relay_schedule::ReadyQueue`]). A room may be read ahead if none of its
     /// connections waits to be written to, or less was said there since they last were than half of
     /// what may wait for a session. So a client that has credit waits for one turn of each that has
     /// credit too, and for the last turn of those who owe. A turn that is out of memory is left for
@@ -178,7 +178,7 @@ impl<S: Read + Write + OpenStream + Drop, R: Readiness<S>> Server<S, R> {
         listener: &L,
         log: &mut J,
     )
-        ensures rounds { RoundsOf S.remaining self.old self.new }
+        ensures rounds { RoundsOf S.remaining S.contents self.old self.new }
         ensures limit { limit_of self.new ≡ limit_of self.old }
         ensures within { connections_of self.old ≤ limit_of self.old
             → connections_of self.new ≤ limit_of self.old }
@@ -191,7 +191,7 @@ impl<S: Read + Write + OpenStream + Drop, R: Readiness<S>> Server<S, R> {
         let spending = self.read(alloc, log);
         self.write(alloc, log);
         self.serve_owing(alloc, spending, log);
-        self.make_place(alloc, log);
+        self.make_room(alloc, log);
     }
 
     /// Runs that many rounds, and ends every connection as [`Server::end`] does.
@@ -203,7 +203,7 @@ impl<S: Read + Write + OpenStream + Drop, R: Readiness<S>> Server<S, R> {
         rounds: u64,
         log: &mut J,
     )
-        ensures rounds { RoundsOf S.remaining self.old self.new }
+        ensures rounds { RoundsOf S.remaining S.contents self.old self.new }
         ensures limit { limit_of self.new ≡ limit_of self.old }
         ensures within { connections_of self.old ≤ limit_of self.old
             → connections_of self.new ≤ limit_of self.old }

@@ -1,6 +1,6 @@
 //! How far a room may be read ahead.
 ghost use Rattle.std.specs.Prelude.{◌≡◌, ◌≤◌, ◌+◌, ◌-◌, ◌^◌, min, ℕ};
-ghost use Rattle.relay_schedule.specs.Share.{has_place};
+ghost use Rattle.relay_schedule.specs.Share.{may_read_ahead};
 
 use std::alloc::{AllocError, Global};
 
@@ -28,9 +28,9 @@ impl RoomShare {
         writers: 0,
     };
 
-    /// Whether the room may be said more.
-    pub fn has_place(self, limits: ShareLimits) -> bool
-        ensures { result ≡ has_place limits self }
+    /// Whether the room may be read ahead: said more before its watchers are written to.
+    pub fn may_read_ahead(self, limits: ShareLimits) -> bool
+        ensures { result ≡ may_read_ahead limits self }
     {
         self.writers == 0 || (self.texts < limits.texts && self.bytes < limits.bytes)
     }
@@ -61,7 +61,7 @@ impl RoomShare {
     }
 }
 
-/// The share of each room, by the room's place in the hub.
+/// The share of each room, by the room's index in the hub.
 #[derive(Drop)]
 pub struct RoomShares {
     shares: Vec<RoomShare>,
@@ -77,41 +77,41 @@ impl RoomShares {
         }
     }
 
-    /// Takes the memory for a room, and for those of lower places. Without it the room is read as
+    /// Takes the memory for a room, and for those of lower indexes. Without it the room is read as
     /// far as it is said something.
-    pub fn admit(&mut self, place: usize) -> Result<(), AllocError> {
-        let count = place.saturating_add(1);
+    pub fn admit(&mut self, index: usize) -> Result<(), AllocError> {
+        let count = index.saturating_add(1);
         if count <= self.shares.len() {
             return Ok(());
         }
         self.shares.resize(count, RoomShare::NONE)
     }
 
-    /// Whether a room may be said more.
-    pub fn has_place(&self, place: usize) -> bool {
-        match self.shares.get(place) {
-            Some(share) => share.has_place(self.limits),
+    /// Whether a room may be read ahead ([`RoomShare::may_read_ahead`]).
+    pub fn may_read_ahead(&self, index: usize) -> bool {
+        match self.shares.get(index) {
+            Some(share) => share.may_read_ahead(self.limits),
             None => true,
         }
     }
 
     /// Notes that a room was said a text of so many bytes.
-    pub fn add_text(&mut self, place: usize, bytes: u64) {
-        if let Some(share) = self.shares.get_mut(place) {
+    pub fn add_text(&mut self, index: usize, bytes: u64) {
+        if let Some(share) = self.shares.get_mut(index) {
             share.add_text(bytes);
         }
     }
 
     /// Notes that a connection of a room waits to be written to.
-    pub fn add_writer(&mut self, place: usize) {
-        if let Some(share) = self.shares.get_mut(place) {
+    pub fn add_writer(&mut self, index: usize) {
+        if let Some(share) = self.shares.get_mut(index) {
             share.add_writer();
         }
     }
 
     /// Notes that one of these was written to, or is gone.
-    pub fn take_writer(&mut self, place: usize) {
-        if let Some(share) = self.shares.get_mut(place) {
+    pub fn take_writer(&mut self, index: usize) {
+        if let Some(share) = self.shares.get_mut(index) {
             share.take_writer();
         }
     }

@@ -176,7 +176,7 @@ fn host<L: OpenListener, P: Readiness<L::Stream>, W: Write, J: ConnectionLog>(
 ) -> Result<(), ServeFault>
 where
     L::Stream: Read + Write + OpenStream + Drop,
-    ensures rounds { RoundsOf L.Stream.remaining server.old server.new }
+    ensures rounds { RoundsOf L.Stream.remaining L.Stream.contents server.old server.new }
     ensures done { OnOk result (Appends (W.contents writer.old) (W.contents writer.new)
         (served_text bound.now.port rounds)) }
     ensures stopped { OnErr result (AppendsPart (W.contents writer.old) (W.contents writer.new)
@@ -210,7 +210,7 @@ fn host_administered<
 ) -> Result<(), ServeFault>
 where
     L::Stream: Read + Write + OpenStream + Drop,
-    ensures rounds { RoundsOf L.Stream.remaining server.old server.new }
+    ensures rounds { RoundsOf L.Stream.remaining L.Stream.contents server.old server.new }
     ensures done { OnOk result ((made : ℕ) × (made ≤ rounds)
         × Appends (W.contents writer.old) (W.contents writer.new)
         (served_text bound.now.port made)) }

@@ -25,7 +25,7 @@ impl<S: Read + Write + OpenStream + Drop, R: Readiness<S>> Server<S, R> {
         listener: &L,
         log: &mut J,
     )
-        ensures { KeepsWithin S.remaining self.old self.new }
+        ensures { KeepsWithin S.remaining S.contents self.old self.new }
     {
         for _ in 0..MAX_ACCEPTS {
             if !self.accept_ready {
@@ -47,7 +47,7 @@ impl<S: Read + Write + OpenStream + Drop, R: Readiness<S>> Server<S, R> {
     /// If the maximum number of connections is held, ends the oldest one without a session.
     #[tactic(auto, using(crate::proofs::Rules::advances))]
     fn evict<J: ConnectionLog>(&mut self, alloc: Global, log: &mut J)
-        ensures { KeepsFewer S.remaining self.old self.new }
+        ensures { KeepsFewer S.remaining S.contents self.old self.new }
     {
         if self.connections.len() < self.most {
             return;
@@ -63,9 +63,9 @@ impl<S: Read + Write + OpenStream + Drop, R: Readiness<S>> Server<S, R> {
         let mut least = u64::MAX;
         for key in 0..self.keys() {
             if let Some(connection) = self.connections.get(key) {
-                if connection.is_unserved() && connection.place < least {
+                if connection.is_unserved() && connection.arrival < least {
                     first = Some(key);
-                    least = connection.place;
+                    least = connection.arrival;
                 }
             }
         }
@@ -75,7 +75,7 @@ impl<S: Read + Write + OpenStream + Drop, R: Readiness<S>> Server<S, R> {
     /// Holds a new connection, if it can be held, and queues it.
     #[tactic(auto, using(crate::proofs::Rules::advances))]
     fn enter<J: ConnectionLog>(&mut self, alloc: Global, stream: S, peer: SocketAddr, log: &mut J)
-        ensures { KeepsWithin S.remaining self.old self.new }
+        ensures { KeepsWithin S.remaining S.contents self.old self.new }
     {
         let key = self.connections.vacant_key();
         if self.add(alloc, stream, peer).is_err() {
@@ -88,7 +88,7 @@ impl<S: Read + Write + OpenStream + Drop, R: Readiness<S>> Server<S, R> {
     /// made non-blocking or watched.
     #[tactic(auto, using(crate::proofs::Rules::advances))]
     fn add(&mut self, alloc: Global, stream: S, peer: SocketAddr) -> Result<(), AllocError>
-        ensures { KeepsWithin S.remaining self.old self.new }
+        ensures { KeepsWithin S.remaining S.contents self.old self.new }
     {
         if self.connections.len() >= self.most || stream.set_nonblocking(true).is_err() {
             return Ok(());
@@ -100,10 +100,10 @@ impl<S: Read + Write + OpenStream + Drop, R: Readiness<S>> Server<S, R> {
         }
         self.queues.admit(key)?;
         reserve(&mut self.sessions, self.connections.len())?;
-        let place = self.accepted;
+        let arrival = self.accepted;
         self.accepted = self.accepted.saturating_add(1);
         let credit = Credit::of_new(self.queues.ready.round());
-        let connection = Connection::new(alloc, stream, peer, credit, place, self.rounds)?;
+        let connection = Connection::new(alloc, stream, peer, credit, arrival, self.rounds)?;
         self.connections.insert(connection)?;
         Ok(())
     }

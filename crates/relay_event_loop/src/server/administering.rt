@@ -44,7 +44,7 @@ where
         log: &mut J,
     ) -> u64
         ensures at_most { result ≤ rounds }
-        ensures rounds { RoundsOf S.remaining self.old self.new }
+        ensures rounds { RoundsOf S.remaining S.contents self.old self.new }
         ensures limit { limit_of self.new ≡ limit_of self.old }
         ensures within { connections_of self.old ≤ limit_of self.old
             → connections_of self.new ≤ limit_of self.old }
@@ -66,7 +66,7 @@ where
         log: &mut J,
     ) -> u64
         ensures at_most { result ≤ rounds }
-        ensures kept { KeepsWithin S.remaining self.old self.new }
+        ensures kept { KeepsWithin S.remaining S.contents self.old self.new }
     {
         for before in 0..rounds {
             admin.counters.begin(self.readiness.now());
@@ -89,7 +89,7 @@ where
         admin: &mut AdminPort<L>,
         log: &mut J,
     ) -> bool
-        ensures { KeepsFewer S.remaining self.old self.new }
+        ensures { KeepsFewer S.remaining S.contents self.old self.new }
     {
         if !self.readiness.take_ready() {
             return false;
@@ -99,7 +99,7 @@ where
             hub: &self.hub,
             is_closed: self.entrance.is_closed(),
             wanted: self.wanted.as_slice(),
-            left: self.places.empty.as_slice(),
+            left: self.vacancies.empty.as_slice(),
             second: self.seconds,
             connections: self.connections.len() as u64,
             max_connections: self.most as u64,
@@ -128,7 +128,7 @@ where
         admin: &mut AdminPort<L>,
         log: &mut J,
     )
-        ensures { KeepsFewer S.remaining self.old self.new }
+        ensures { KeepsFewer S.remaining S.contents self.old self.new }
     {
         for _ in 0..MAX_CONNECTIONS {
             let Some(asked) = admin.next_admission() else {
@@ -142,7 +142,7 @@ where
     /// Forgets each room that the admin port asks to be forgotten, in which nobody is.
     #[tactic(auto, using(crate::proofs::Rules::house))]
     fn forget_asked<L: OpenListener<Stream = S>>(&mut self, alloc: Global, admin: &mut AdminPort<L>)
-        ensures { KeepsFewer S.remaining self.old self.new }
+        ensures { KeepsFewer S.remaining S.contents self.old self.new }
     {
         for _ in 0..MAX_CONNECTIONS {
             let Some(room) = admin.room_to_forget() else {
@@ -162,7 +162,7 @@ where
         admin: &mut AdminPort<L>,
         log: &mut J,
     )
-        ensures { KeepsFewer S.remaining self.old self.new }
+        ensures { KeepsFewer S.remaining S.contents self.old self.new }
     {
         let mut spending = Spending::within(ROUND_COST);
         for _ in 0..MAX_CONNECTIONS {
@@ -181,7 +181,7 @@ where
     /// Writes what waits for the sessions, for at most five seconds. Accepts and reads nothing.
     #[tactic(auto, using(crate::proofs::Rules::advances))]
     fn take_leave<J: ConnectionLog>(&mut self, alloc: Global, log: &mut J)
-        ensures { KeepsFewer S.remaining self.old self.new }
+        ensures { KeepsFewer S.remaining S.contents self.old self.new }
     {
         let until = self
             .readiness

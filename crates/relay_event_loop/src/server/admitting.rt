@@ -34,7 +34,7 @@ impl<S: Read + Write + OpenStream + Drop, R: Readiness<S>> Server<S, R> {
         ensures hub { hub_of self.new ≡ hub_of self.old }
         ensures limit { limit_of self.new ≡ limit_of self.old }
         ensures connections { connections_of self.new ≡ connections_of self.old }
-        ensures rounds { RoundsOf S.remaining self.old self.new }
+        ensures rounds { RoundsOf S.remaining S.contents self.old self.new }
     {
         self.entrance = entrance;
         self.wanted.clear();
@@ -49,7 +49,7 @@ impl<S: Read + Write + OpenStream + Drop, R: Readiness<S>> Server<S, R> {
         asked: Admission<'_>,
         log: &mut J,
     ) -> Result<(), EntranceFault>
-        ensures { KeepsFewer S.remaining self.old self.new }
+        ensures { KeepsFewer S.remaining S.contents self.old self.new }
     {
         match asked {
             Admission::Open(room) => self.open_room(alloc, room),
@@ -64,7 +64,7 @@ impl<S: Read + Write + OpenStream + Drop, R: Readiness<S>> Server<S, R> {
     /// Lets clients into a room. As many can be open as the hub may have.
     #[tactic(auto, using(crate::proofs::Rules::advances))]
     fn open_room(&mut self, alloc: Global, room: &str) -> Result<(), EntranceFault>
-        ensures { KeepsFewer S.remaining self.old self.new }
+        ensures { KeepsFewer S.remaining S.contents self.old self.new }
     {
         self.entrance.admit(alloc, room, self.hub.config().rooms)?;
         self.wanted.remove(room);
@@ -74,7 +74,7 @@ impl<S: Read + Write + OpenStream + Drop, R: Readiness<S>> Server<S, R> {
     /// Keeps clients out of a room, and forgets that any were turned away from it.
     #[tactic(auto, using(crate::proofs::Rules::advances))]
     fn close_room(&mut self, room: &str) -> Result<(), EntranceFault>
-        ensures { KeepsFewer S.remaining self.old self.new }
+        ensures { KeepsFewer S.remaining S.contents self.old self.new }
     {
         self.entrance.exclude(room)?;
         self.wanted.remove(room);
@@ -84,7 +84,7 @@ impl<S: Read + Write + OpenStream + Drop, R: Readiness<S>> Server<S, R> {
     /// Ends each connection whose session is in a room.
     #[tactic(auto, using(crate::proofs::Rules::advances))]
     fn end_those_in<J: ConnectionLog>(&mut self, alloc: Global, room: &str, log: &mut J)
-        ensures { KeepsFewer S.remaining self.old self.new }
+        ensures { KeepsFewer S.remaining S.contents self.old self.new }
     {
         for key in 0..self.keys() {
             if self.is_in(key, room) {

@@ -26,7 +26,7 @@ impl<S: Read + Write + OpenStream + Drop, R: Readiness<S>> Server<S, R> {
     /// for the end of one, it stays, with its session; if it is refused for a will, that is left.
     #[tactic(auto, using(crate::proofs::Rules::rounds))]
     pub fn end<J: ConnectionLog>(&mut self, alloc: Global, log: &mut J)
-        ensures rounds { RoundsOf S.remaining self.old self.new }
+        ensures rounds { RoundsOf S.remaining S.contents self.old self.new }
         ensures limit { limit_of self.new ≡ limit_of self.old }
         ensures fewer { connections_of self.new ≤ connections_of self.old }
     {
@@ -45,7 +45,7 @@ impl<S: Read + Write + OpenStream + Drop, R: Readiness<S>> Server<S, R> {
         cause: EndCause,
         log: &mut J,
     )
-        ensures { KeepsFewer S.remaining self.old self.new }
+        ensures { KeepsFewer S.remaining S.contents self.old self.new }
     {
         let Some(connection) = self.connections.get_mut(key) else {
             return;
@@ -69,7 +69,7 @@ impl<S: Read + Write + OpenStream + Drop, R: Readiness<S>> Server<S, R> {
         turn: &Turn,
         log: &mut J,
     )
-        ensures { KeepsFewer S.remaining self.old self.new }
+        ensures { KeepsFewer S.remaining S.contents self.old self.new }
     {
         self.count_output(key, turn);
         self.note_events(key, turn, log);
@@ -86,7 +86,7 @@ impl<S: Read + Write + OpenStream + Drop, R: Readiness<S>> Server<S, R> {
     /// Counts what a connection holds of output after a turn.
     #[tactic(auto, using(crate::proofs::Rules::advances))]
     fn count_output(&mut self, key: usize, turn: &Turn)
-        ensures { KeepsFewer S.remaining self.old self.new }
+        ensures { KeepsFewer S.remaining S.contents self.old self.new }
     {
         let Some(connection) = self.connections.get(key) else {
             return;
@@ -99,7 +99,7 @@ impl<S: Read + Write + OpenStream + Drop, R: Readiness<S>> Server<S, R> {
     /// and take no more, until the others hold half.
     #[tactic(auto, using(crate::proofs::Rules::advances))]
     pub(super) fn relieve<J: ConnectionLog>(&mut self, alloc: Global, before: u64, log: &mut J)
-        ensures { KeepsFewer S.remaining self.old self.new }
+        ensures { KeepsFewer S.remaining S.contents self.old self.new }
     {
         if self.seconds == before || !self.output.is_full() {
             return;
@@ -134,13 +134,13 @@ impl<S: Read + Write + OpenStream + Drop, R: Readiness<S>> Server<S, R> {
     /// Notes the session that a turn opened or closed, or why the hub opened none.
     #[tactic(auto, using(crate::proofs::Rules::advances))]
     fn note_events<J: ConnectionLog>(&mut self, key: usize, turn: &Turn, log: &mut J)
-        ensures { KeepsFewer S.remaining self.old self.new }
+        ensures { KeepsFewer S.remaining S.contents self.old self.new }
     {
         match (session_event(turn), turn.fault) {
             (_, Some(fault)) => self.note_fault(key, fault),
             (Some(Event::Open { room, .. }), None) => {
-                let place = self.place_of(key);
-                self.note_opened(key, room.as_str(), place);
+                let index = self.room_index_of(key);
+                self.note_opened(key, room.as_str(), index);
                 if !self.index_opened(key) {
                     self.shed(log);
                 }
@@ -156,7 +156,7 @@ impl<S: Read + Write + OpenStream + Drop, R: Readiness<S>> Server<S, R> {
 
     #[tactic(auto, using(crate::proofs::Rules::advances))]
     fn note_fault(&mut self, key: usize, fault: OpenFault)
-        ensures { KeepsFewer S.remaining self.old self.new }
+        ensures { KeepsFewer S.remaining S.contents self.old self.new }
     {
         let Some(connection) = self.connections.get_mut(key) else {
             return;
@@ -165,34 +165,34 @@ impl<S: Read + Write + OpenStream + Drop, R: Readiness<S>> Server<S, R> {
     }
 
     #[tactic(auto, using(crate::proofs::Rules::advances))]
-    fn note_opened(&mut self, key: usize, room: &str, place: Option<usize>)
-        ensures { KeepsFewer S.remaining self.old self.new }
+    fn note_opened(&mut self, key: usize, room: &str, index: Option<usize>)
+        ensures { KeepsFewer S.remaining S.contents self.old self.new }
     {
         let Some(connection) = self.connections.get_mut(key) else {
             return;
         };
-        connection.note_opened(room, place);
+        connection.note_opened(room, index);
     }
 
     /// Notes that the session of a connection left its room.
     #[tactic(auto, using(crate::proofs::Rules::advances))]
     fn note_left(&mut self, key: usize)
-        ensures { KeepsFewer S.remaining self.old self.new }
+        ensures { KeepsFewer S.remaining S.contents self.old self.new }
     {
         let Some(connection) = self.connections.get(key) else {
             return;
         };
-        if let Some(place) = connection.room_place() {
-            self.places.empty.note_left(place, self.seconds);
+        if let Some(index) = connection.room_index() {
+            self.vacancies.empty.note_left(index, self.seconds);
         }
-        self.places.have_changed = true;
+        self.vacancies.have_changed = true;
     }
 
     /// Puts the session of a connection into the map, if it has one, for which there is memory.
     /// Takes the memory for what is kept of its room; returns whether there was some.
     #[tactic(auto, using(crate::proofs::Rules::advances))]
     fn index_opened(&mut self, key: usize) -> bool
-        ensures { KeepsFewer S.remaining self.old self.new }
+        ensures { KeepsFewer S.remaining S.contents self.old self.new }
     {
         let Some(connection) = self.connections.get(key) else {
             return true;
@@ -200,17 +200,17 @@ impl<S: Read + Write + OpenStream + Drop, R: Readiness<S>> Server<S, R> {
         if let Some(session) = connection.link.session() {
             let _ = self.sessions.insert(session, key);
         }
-        self.places.have_changed = true;
-        match connection.room_place() {
-            Some(place) => {
-                self.rooms.admit(place).is_ok() && self.places.empty.admit(place).is_ok()
+        self.vacancies.have_changed = true;
+        match connection.room_index() {
+            Some(index) => {
+                self.rooms.admit(index).is_ok() && self.vacancies.empty.admit(index).is_ok()
             }
             None => true,
         }
     }
 
-    /// The place in the hub of the room of a connection's session.
-    fn place_of(&self, key: usize) -> Option<usize> {
+    /// The index in the hub of the room of a connection's session.
+    fn room_index_of(&self, key: usize) -> Option<usize> {
         self.hub.room_of(self.connections.get(key)?.link.session()?)
     }
 
@@ -252,7 +252,7 @@ impl<S: Read + Write + OpenStream + Drop, R: Readiness<S>> Server<S, R> {
     /// at most.
     #[tactic(auto, using(crate::proofs::Rules::advances))]
     pub(super) fn shed<J: ConnectionLog>(&mut self, log: &mut J)
-        ensures { KeepsFewer S.remaining self.old self.new }
+        ensures { KeepsFewer S.remaining S.contents self.old self.new }
     {
         self.hub.shed();
         if self.rounds >= self.next_shed_entry {
@@ -264,7 +264,7 @@ impl<S: Read + Write + OpenStream + Drop, R: Readiness<S>> Server<S, R> {
     /// Drops a connection whose link is gone, and so has no session.
     #[tactic(auto, using(crate::proofs::Rules::advances))]
     fn remove_gone(&mut self, key: usize)
-        ensures { KeepsFewer S.remaining self.old self.new }
+        ensures { KeepsFewer S.remaining S.contents self.old self.new }
     {
         let Some(connection) = self.connections.get(key) else {
             return;

@@ -1,9 +1,9 @@
-//! Which room is forgotten when all places are taken.
+//! Which room is forgotten when there are as many as may be.
 //!
-//! A new room takes the place of one in which nobody is and whose document is `null`. If the server
+//! A new room replaces one in which nobody is and whose document is `null`. If the server
 //! forgets rooms, it sees to it that there is one: of the rooms in which nobody is, the one that
 //! has been empty for the longest time begins anew. It looks for one only after a session was
-//! opened or closed, since nothing else takes a place or leaves a room empty.
+//! opened or closed, since nothing else begins a room or leaves one empty.
 ghost use Rattle.std.specs.Prelude.{◌≡◌};
 ghost use Rattle.relay_event_loop.specs.Advances.{KeepsFewer};
 ghost use Rattle.relay_event_loop.specs.Connections.{connections_of, limit_of, hub_of};
@@ -20,21 +20,21 @@ use std::net::OpenStream;
 
 /// What a server knows of its rooms besides the hub.
 #[derive(Drop)]
-pub(super) struct RoomPlaces {
+pub(super) struct RoomVacancies {
     /// Since when they are empty.
     pub empty: EmptyRooms,
     /// Whether the server forgets rooms.
     pub are_forgotten: bool,
-    /// Whether a session was opened or closed since a place was last sought.
+    /// Whether a session was opened or closed since a room was last sought.
     pub have_changed: bool,
-    /// The place of the room that was forgotten last, and the revision at which it began anew.
+    /// The index of the room that was forgotten last, and the revision at which it began anew.
     vacated: Option<(usize, u64)>,
 }
 
-impl RoomPlaces {
+impl RoomVacancies {
     /// Of a hub without rooms, none of which is forgotten.
-    pub fn new(alloc: Global) -> RoomPlaces {
-        RoomPlaces {
+    pub fn new(alloc: Global) -> RoomVacancies {
+        RoomVacancies {
             empty: EmptyRooms::new(alloc),
             are_forgotten: false,
             have_changed: false,
@@ -44,85 +44,85 @@ impl RoomPlaces {
 }
 
 impl<S: Read + Write + OpenStream + Drop, R: Readiness<S>> Server<S, R> {
-    /// From now on, if all places of rooms are taken, the room that has been empty for the longest
-    /// time is forgotten after a round ([`relay_hub::Hub::forget`]), so that a session in another
-    /// one can be opened.
+    /// From now on, if there are as many rooms as may be, the room that has been empty for the
+    /// longest time is forgotten after a round ([`relay_hub::Hub::forget`]), so that a session in
+    /// another one can be opened.
     #[tactic(auto, using(crate::proofs::Rules::rounds))]
     pub fn forget_rooms(&mut self)
         ensures hub { hub_of self.new ≡ hub_of self.old }
         ensures limit { limit_of self.new ≡ limit_of self.old }
         ensures connections { connections_of self.new ≡ connections_of self.old }
-        ensures rounds { RoundsOf S.remaining self.old self.new }
+        ensures rounds { RoundsOf S.remaining S.contents self.old self.new }
     {
-        self.places.are_forgotten = true;
-        self.places.have_changed = true;
+        self.vacancies.are_forgotten = true;
+        self.vacancies.have_changed = true;
     }
 
     /// Forgets the room that has been empty for the longest time, if the server forgets rooms, and
-    /// no place is left for another one. Out of memory leaves that to the next round.
+    /// none is left for another name. Out of memory leaves that to the next round.
     #[tactic(auto, using(crate::proofs::Rules::advances))]
-    pub(super) fn make_place<J: ConnectionLog>(&mut self, alloc: Global, log: &mut J)
-        ensures { KeepsFewer S.remaining self.old self.new }
+    pub(super) fn make_room<J: ConnectionLog>(&mut self, alloc: Global, log: &mut J)
+        ensures { KeepsFewer S.remaining S.contents self.old self.new }
     {
-        if !self.places.are_forgotten || !self.places.have_changed || self.hub.has_wills() {
+        if !self.vacancies.are_forgotten || !self.vacancies.have_changed || self.hub.has_wills() {
             return;
         }
-        self.places.have_changed = false;
-        if self.is_place_left() {
+        self.vacancies.have_changed = false;
+        if self.is_room_left() {
             return;
         }
-        if let Some(place) = self.longest_empty() {
-            if self.forget_at(alloc, place).is_err() {
-                self.places.have_changed = true;
+        if let Some(index) = self.longest_empty() {
+            if self.forget_at(alloc, index).is_err() {
+                self.vacancies.have_changed = true;
                 self.shed(log);
             }
         }
     }
 
-    /// Whether there is a place for another room, as far as it is known: one was never taken, or
+    /// Whether there is a room for another name, as far as it is known: fewer began than may be, or
     /// nobody has come to the one that was forgotten last.
-    fn is_place_left(&self) -> bool {
+    fn is_room_left(&self) -> bool {
         let last = self.hub.config().rooms.saturating_sub(1) as usize;
         if self.hub.room_at(last).is_none() {
             return true;
         }
-        let Some((place, began)) = self.places.vacated else {
+        let Some((index, began)) = self.vacancies.vacated else {
             return false;
         };
-        match self.hub.room_at(place) {
+        match self.hub.room_at(index) {
             Some(room) => room.sessions == 0 && room.revision == began,
             None => false,
         }
     }
 
-    /// The place of the room that has been empty for the longest time.
+    /// The index of the room that has been empty for the longest time.
     fn longest_empty(&self) -> Option<usize> {
         let mut found = None;
         let mut least = u64::MAX;
-        for place in 0..self.hub.config().rooms as usize {
-            let Some(room) = self.hub.room_at(place) else {
+        for index in 0..self.hub.config().rooms as usize {
+            let Some(room) = self.hub.room_at(index) else {
                 return found;
             };
-            let left = self.places.empty.since(place);
+            let left = self.vacancies.empty.since(index);
             if room.sessions == 0 && left < least {
-                found = Some(place);
+                found = Some(index);
                 least = left;
             }
         }
         found
     }
 
-    /// Forgets the room at a place.
+    /// Forgets the room at an index.
     #[tactic(auto, using(crate::proofs::Rules::house))]
-    fn forget_at(&mut self, alloc: Global, place: usize) -> Result<(), AllocError>
-        ensures { KeepsFewer S.remaining self.old self.new }
+    fn forget_at(&mut self, alloc: Global, index: usize) -> Result<(), AllocError>
+        ensures { KeepsFewer S.remaining S.contents self.old self.new }
     {
-        let Some(room) = self.hub.room_at(place) else {
+        let Some(room) = self.hub.room_at(index) else {
             return Ok(());
         };
         let name = String::from_str(alloc, room.name)?;
         match self.hub.forget(alloc, name.as_str()) {
-            Ok(began) => self.places.vacated = Some((place, began)),
+            Ok(began) => self.vacancies.vacated = Some((index, began)),
             Err(ForgetFault::NoMemory) => return Err(AllocError),
             Err(_) => {}
         }

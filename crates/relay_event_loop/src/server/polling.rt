@@ -14,7 +14,7 @@ impl<S: Read + Write + OpenStream + Drop, R: Readiness<S>> Server<S, R> {
     /// Polls what became ready, and waits if there is no work.
     #[tactic(auto, using(crate::proofs::Rules::advances))]
     pub(super) fn poll(&mut self)
-        ensures { KeepsFewer S.remaining self.old self.new }
+        ensures { KeepsFewer S.remaining S.contents self.old self.new }
     {
         let has_work = self.has_work();
         let most = Duration::from_millis(if has_work { 0 } else { WAIT });
@@ -27,8 +27,8 @@ impl<S: Read + Write + OpenStream + Drop, R: Readiness<S>> Server<S, R> {
         if !has_work && self.events.is_empty() {
             self.mark_closing();
         }
-        for place in 0..self.events.len() {
-            if let Some(event) = self.event_at(place) {
+        for index in 0..self.events.len() {
+            if let Some(event) = self.event_at(index) {
                 self.apply(event);
             }
         }
@@ -47,14 +47,14 @@ impl<S: Read + Write + OpenStream + Drop, R: Readiness<S>> Server<S, R> {
     }
 
     /// The event at an index.
-    fn event_at(&self, place: usize) -> Option<ReadyEvent> {
-        self.events.get(place).copied()
+    fn event_at(&self, index: usize) -> Option<ReadyEvent> {
+        self.events.get(index).copied()
     }
 
     /// Applies an event. An event of a dropped connection is ignored.
     #[tactic(auto, using(crate::proofs::Rules::advances))]
     fn apply(&mut self, event: ReadyEvent)
-        ensures { KeepsFewer S.remaining self.old self.new }
+        ensures { KeepsFewer S.remaining S.contents self.old self.new }
     {
         match event {
             ReadyEvent::Incoming => self.accept_ready = true,
@@ -66,7 +66,7 @@ impl<S: Read + Write + OpenStream + Drop, R: Readiness<S>> Server<S, R> {
     /// Marks everything as ready.
     #[tactic(auto, using(crate::proofs::Rules::advances))]
     fn mark_all(&mut self)
-        ensures { KeepsFewer S.remaining self.old self.new }
+        ensures { KeepsFewer S.remaining S.contents self.old self.new }
     {
         self.accept_ready = true;
         for key in 0..self.keys() {
@@ -77,7 +77,7 @@ impl<S: Read + Write + OpenStream + Drop, R: Readiness<S>> Server<S, R> {
     /// Records what the stream of a connection is ready for, and queues the connection.
     #[tactic(auto, using(crate::proofs::Rules::advances))]
     fn announce(&mut self, key: usize, ready: StreamReady)
-        ensures { KeepsFewer S.remaining self.old self.new }
+        ensures { KeepsFewer S.remaining S.contents self.old self.new }
     {
         self.wake(key, ready);
         self.queue(key);
@@ -86,7 +86,7 @@ impl<S: Read + Write + OpenStream + Drop, R: Readiness<S>> Server<S, R> {
     /// Records what the stream of a connection is ready for, if the connection is held.
     #[tactic(auto, using(crate::proofs::Rules::advances))]
     fn wake(&mut self, key: usize, ready: StreamReady)
-        ensures { KeepsFewer S.remaining self.old self.new }
+        ensures { KeepsFewer S.remaining S.contents self.old self.new }
     {
         let Some(connection) = self.connections.get_mut(key) else {
             return;
@@ -97,7 +97,7 @@ impl<S: Read + Write + OpenStream + Drop, R: Readiness<S>> Server<S, R> {
     /// Gives each closing link a read turn.
     #[tactic(auto, using(crate::proofs::Rules::advances))]
     fn mark_closing(&mut self)
-        ensures { KeepsFewer S.remaining self.old self.new }
+        ensures { KeepsFewer S.remaining S.contents self.old self.new }
     {
         for _ in 0..self.queues.closing() {
             if let Some(key) = self.queues.pop_closing() {
@@ -109,7 +109,7 @@ impl<S: Read + Write + OpenStream + Drop, R: Readiness<S>> Server<S, R> {
 
     #[tactic(auto, using(crate::proofs::Rules::advances))]
     fn mark_closing_at(&mut self, key: usize)
-        ensures { KeepsFewer S.remaining self.old self.new }
+        ensures { KeepsFewer S.remaining S.contents self.old self.new }
     {
         let Some(connection) = self.connections.get_mut(key) else {
             return;

@@ -34,7 +34,7 @@ impl<S: Read + Write + OpenStream + Drop, R: Readiness<S>> Server<S, R> {
     /// Queues a connection for each turn that it wants, if it is held. Allocates nothing.
     #[tactic(auto, using(crate::proofs::Rules::advances))]
     pub(super) fn queue(&mut self, key: usize)
-        ensures { KeepsFewer S.remaining self.old self.new }
+        ensures { KeepsFewer S.remaining S.contents self.old self.new }
     {
         let Some(connection) = self.connections.get(key) else {
             return;
@@ -51,10 +51,10 @@ impl<S: Read + Write + OpenStream + Drop, R: Readiness<S>> Server<S, R> {
     /// that it told something are queued for a write turn.
     #[tactic(auto, using(crate::proofs::Rules::advances))]
     pub(super) fn queue_told(&mut self, key: usize, turn: &Turn)
-        ensures { KeepsFewer S.remaining self.old self.new }
+        ensures { KeepsFewer S.remaining S.contents self.old self.new }
     {
         self.texts = self.texts.saturating_add(1);
-        if let Some(room) = self.room_place(key) {
+        if let Some(room) = self.room_index(key) {
             self.rooms.add_text(room, turn.received());
         }
         self.queue_each_told();
@@ -65,7 +65,7 @@ impl<S: Read + Write + OpenStream + Drop, R: Readiness<S>> Server<S, R> {
     /// somebody something, its room was said more, and those are queued for a write turn.
     #[tactic(auto, using(crate::proofs::Rules::advances))]
     pub(super) fn queue_told_unsent(&mut self, bytes: u64)
-        ensures { KeepsFewer S.remaining self.old self.new }
+        ensures { KeepsFewer S.remaining S.contents self.old self.new }
     {
         if let Some(room) = self.told_room() {
             self.rooms.add_text(room, bytes);
@@ -76,16 +76,16 @@ impl<S: Read + Write + OpenStream + Drop, R: Readiness<S>> Server<S, R> {
     /// Queues each connection that the last text or will told something for a write turn.
     #[tactic(auto, using(crate::proofs::Rules::advances))]
     fn queue_each_told(&mut self)
-        ensures { KeepsFewer S.remaining self.old self.new }
+        ensures { KeepsFewer S.remaining S.contents self.old self.new }
     {
-        for place in 0..self.told() {
-            if let Some(key) = self.told_at(place) {
+        for index in 0..self.told() {
+            if let Some(key) = self.told_at(index) {
                 self.queue_writer(key);
             }
         }
     }
 
-    /// The place of the room of those whom the last text or will told something, if it told
+    /// The index of the room of those whom the last text or will told something, if it told
     /// somebody, and memory sufficed to find out whom.
     fn told_room(&self) -> Option<usize> {
         let told = self.hub.told();
@@ -93,16 +93,16 @@ impl<S: Read + Write + OpenStream + Drop, R: Readiness<S>> Server<S, R> {
     }
 
     /// Whether that room may be said more.
-    pub(super) fn told_has_place(&self) -> bool {
+    pub(super) fn told_may_read_ahead(&self) -> bool {
         match self.told_room() {
-            Some(room) => self.rooms.has_place(room),
+            Some(room) => self.rooms.may_read_ahead(room),
             None => true,
         }
     }
 
-    /// The place of a connection's room.
-    fn room_place(&self, key: usize) -> Option<usize> {
-        self.connections.get(key)?.room_place()
+    /// The index of a connection's room.
+    fn room_index(&self, key: usize) -> Option<usize> {
+        self.connections.get(key)?.room_index()
     }
 
     /// How many connections the last text or will may have told something, besides the one that
@@ -117,18 +117,18 @@ impl<S: Read + Write + OpenStream + Drop, R: Readiness<S>> Server<S, R> {
     }
 
     /// The key of one of these.
-    fn told_at(&self, place: usize) -> Option<usize> {
+    fn told_at(&self, index: usize) -> Option<usize> {
         let told = self.hub.told();
         if told.all {
-            return Some(place);
+            return Some(index);
         }
-        self.sessions.get(told.sessions.get(place)?).copied()
+        self.sessions.get(told.sessions.get(index)?).copied()
     }
 
     /// Queues a connection for a write turn, if it is held and can be written. Allocates nothing.
     #[tactic(auto, using(crate::proofs::Rules::advances))]
     fn queue_writer(&mut self, key: usize)
-        ensures { KeepsFewer S.remaining self.old self.new }
+        ensures { KeepsFewer S.remaining S.contents self.old self.new }
     {
         let Some(connection) = self.connections.get(key) else {
             return;
@@ -142,7 +142,7 @@ impl<S: Read + Write + OpenStream + Drop, R: Readiness<S>> Server<S, R> {
     /// Notes that a connection waits no longer to be written to.
     #[tactic(auto, using(crate::proofs::Rules::advances))]
     pub(super) fn uncount(&mut self, key: usize)
-        ensures { KeepsFewer S.remaining self.old self.new }
+        ensures { KeepsFewer S.remaining S.contents self.old self.new }
     {
         let Some(connection) = self.connections.get(key) else {
             return;
@@ -156,14 +156,14 @@ pub(super) fn uncount_writer<S: Read + Write + Drop>(
     rooms: &mut RoomShares,
     connection: &Connection<S>,
 ) {
-    if let (true, Some(place)) = (connection.count(false), connection.room_place()) {
-        rooms.take_writer(place);
+    if let (true, Some(index)) = (connection.count(false), connection.room_index()) {
+        rooms.take_writer(index);
     }
 }
 
 /// Notes that a connection waits to be written to, once.
 fn count_writer<S: Read + Write + Drop>(rooms: &mut RoomShares, connection: &Connection<S>) {
-    if let (false, Some(place)) = (connection.count(true), connection.room_place()) {
-        rooms.add_writer(place);
+    if let (false, Some(index)) = (connection.count(true), connection.room_index()) {
+        rooms.add_writer(index);
     }
 }

@@ -32,7 +32,7 @@ impl<S: Read + Write + OpenStream + Drop, R: Readiness<S>> Server<S, R> {
     /// has cost what it may. Returns what it cost.
     #[tactic(auto, using(crate::proofs::Rules::advances))]
     pub(super) fn read<J: ConnectionLog>(&mut self, alloc: Global, log: &mut J) -> Spending
-        ensures { KeepsFewer S.remaining self.old self.new }
+        ensures { KeepsFewer S.remaining S.contents self.old self.new }
     {
         let mut spending = Spending::within(ROUND_COST);
         for _ in 0..MAX_PASSES {
@@ -45,8 +45,8 @@ impl<S: Read + Write + OpenStream + Drop, R: Readiness<S>> Server<S, R> {
         spending
     }
 
-    /// Reads once from each connection with credit whose room has place, until the round has cost
-    /// what it may. Returns what it cost.
+    /// Reads once from each connection with credit whose room may be read ahead, until the round
+    /// has cost what it may. Returns what it cost.
     #[tactic(auto, using(crate::proofs::Rules::advances))]
     fn read_each<J: ConnectionLog>(
         &mut self,
@@ -54,7 +54,7 @@ impl<S: Read + Write + OpenStream + Drop, R: Readiness<S>> Server<S, R> {
         before: Spending,
         log: &mut J,
     ) -> Spending
-        ensures { KeepsFewer S.remaining self.old self.new }
+        ensures { KeepsFewer S.remaining S.contents self.old self.new }
     {
         let mut spending = before;
         for _ in 0..self.queues.ready.credited() {
@@ -77,7 +77,7 @@ impl<S: Read + Write + OpenStream + Drop, R: Readiness<S>> Server<S, R> {
         before: Spending,
         log: &mut J,
     )
-        ensures { KeepsFewer S.remaining self.old self.new }
+        ensures { KeepsFewer S.remaining S.contents self.old self.new }
     {
         let read = self.read_those_owing(alloc, before, log);
         if self.do_wills(alloc, read, log) != before {
@@ -94,7 +94,7 @@ impl<S: Read + Write + OpenStream + Drop, R: Readiness<S>> Server<S, R> {
         before: Spending,
         log: &mut J,
     ) -> Spending
-        ensures { KeepsFewer S.remaining self.old self.new }
+        ensures { KeepsFewer S.remaining S.contents self.old self.new }
     {
         let mut spending = before;
         for _ in 0..MAX_PASSES {
@@ -111,8 +111,8 @@ impl<S: Read + Write + OpenStream + Drop, R: Readiness<S>> Server<S, R> {
         spending
     }
 
-    /// Reads once from each connection that owes, and whose room has place: from one at least, and
-    /// from others until the round has cost what it may. Returns what it cost.
+    /// Reads once from each connection that owes, and whose room may be read ahead: from one at
+    /// least, and from others until the round has cost what it may. Returns what it cost.
     #[tactic(auto, using(crate::proofs::Rules::advances))]
     fn read_each_owing<J: ConnectionLog>(
         &mut self,
@@ -120,7 +120,7 @@ impl<S: Read + Write + OpenStream + Drop, R: Readiness<S>> Server<S, R> {
         before: Spending,
         log: &mut J,
     ) -> Spending
-        ensures { KeepsFewer S.remaining self.old self.new }
+        ensures { KeepsFewer S.remaining S.contents self.old self.new }
     {
         let mut spending = before;
         for _ in 0..self.queues.ready.owing().max(1) {
@@ -139,7 +139,7 @@ impl<S: Read + Write + OpenStream + Drop, R: Readiness<S>> Server<S, R> {
     /// turn cost; 0 if there was none.
     #[tactic(auto, using(crate::proofs::Rules::advances))]
     fn read_at<J: ConnectionLog>(&mut self, alloc: Global, key: usize, log: &mut J) -> u64
-        ensures { KeepsFewer S.remaining self.old self.new }
+        ensures { KeepsFewer S.remaining S.contents self.old self.new }
     {
         let cost = match self.read_turn_draws(key) {
             Some(draws) => self.read_link(alloc, key, draws, log),
@@ -150,17 +150,17 @@ impl<S: Read + Write + OpenStream + Drop, R: Readiness<S>> Server<S, R> {
     }
 
     /// How many messages a read turn of a connection may draw now: one, or none if a long snapshot
-    /// may be due. `None` if it is not to be read: a reply can be sent before, its room has no
-    /// place, or there is nothing to read.
+    /// may be due. `None` if it is not to be read: a reply can be sent before, its room may
+    /// not be read ahead, or there is nothing to read.
     fn read_turn_draws(&self, key: usize) -> Option<u64> {
         let connection = self.connections.get(key)?;
-        let has_place = match connection.room_place() {
-            Some(place) => self.rooms.has_place(place),
+        let may_read_ahead = match connection.room_index() {
+            Some(index) => self.rooms.may_read_ahead(index),
             None => true,
         };
         let has_sendable_reply = connection.standing().replies > 0
             && connection.has_output(&self.hub, Output::Waiting);
-        if has_sendable_reply || !has_place || !connection.may_read(&self.hub) {
+        if has_sendable_reply || !may_read_ahead || !connection.may_read(&self.hub) {
             return None;
         }
         if self.has_no_long_snapshot(connection) {
@@ -178,7 +178,7 @@ impl<S: Read + Write + OpenStream + Drop, R: Readiness<S>> Server<S, R> {
         draws: u64,
         log: &mut J,
     ) -> u64
-        ensures { KeepsFewer S.remaining self.old self.new }
+        ensures { KeepsFewer S.remaining S.contents self.old self.new }
     {
         let Some(connection) = self.connections.get_mut(key) else {
             return 0;

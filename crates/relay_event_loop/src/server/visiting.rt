@@ -29,7 +29,7 @@ impl<S: Read + Write + OpenStream + Drop, R: Readiness<S>> Server<S, R> {
         text: Text,
         log: &mut J,
     ) -> Result<Visit, AllocError>
-        ensures kept { KeepsFewer S.remaining self.old self.new }
+        ensures kept { KeepsFewer S.remaining S.contents self.old self.new }
         ensures visited { IfOk result
             (λ visit. Visited (string_bytes room) access text (hub_of self.old) visit) }
     {
@@ -48,7 +48,7 @@ impl<S: Read + Write + OpenStream + Drop, R: Readiness<S>> Server<S, R> {
         access: Access,
         text: Text,
     ) -> Result<Visit, AllocError>
-        ensures kept { KeepsFewer S.remaining self.old self.new }
+        ensures kept { KeepsFewer S.remaining S.contents self.old self.new }
         ensures visited { IfOk result
             (λ visit. Visited (string_bytes room) access text (hub_of self.old) visit) }
         ensures unchanged { OnErr result (hub_of self.new ≡ hub_of self.old) }
@@ -64,14 +64,14 @@ impl<S: Read + Write + OpenStream + Drop, R: Readiness<S>> Server<S, R> {
         bytes: u64,
         log: &mut J,
     )
-        ensures { KeepsFewer S.remaining self.old self.new }
+        ensures { KeepsFewer S.remaining S.contents self.old self.new }
     {
         let Ok(visit) = made else {
             self.shed(log);
             return;
         };
-        if let Some(place) = visit.place {
-            self.note_visited(place, log);
+        if let Some(index) = visit.room_index {
+            self.note_visited(index, log);
         }
         if visit.outcome.is_heard() {
             self.texts = self.texts.saturating_add(1);
@@ -82,15 +82,15 @@ impl<S: Read + Write + OpenStream + Drop, R: Readiness<S>> Server<S, R> {
         }
     }
 
-    /// Notes that a session entered and left the room at a place, which takes memory for what is
+    /// Notes that a session entered and left the room at an index, which takes memory for what is
     /// kept of the room.
     #[tactic(auto, using(crate::proofs::Rules::advances))]
-    fn note_visited<J: ConnectionLog>(&mut self, place: usize, log: &mut J)
-        ensures { KeepsFewer S.remaining self.old self.new }
+    fn note_visited<J: ConnectionLog>(&mut self, index: usize, log: &mut J)
+        ensures { KeepsFewer S.remaining S.contents self.old self.new }
     {
-        self.places.have_changed = true;
-        let admitted = self.places.empty.admit(place);
-        self.places.empty.note_left(place, self.seconds);
+        self.vacancies.have_changed = true;
+        let admitted = self.vacancies.empty.admit(index);
+        self.vacancies.empty.note_left(index, self.seconds);
         if admitted.is_err() {
             self.shed(log);
         }

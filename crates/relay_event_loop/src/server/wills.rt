@@ -26,7 +26,7 @@ impl<S: Read + Write + OpenStream + Drop, R: Readiness<S>> Server<S, R> {
         before: Spending,
         log: &mut J,
     ) -> Spending
-        ensures { KeepsFewer S.remaining self.old self.new }
+        ensures { KeepsFewer S.remaining S.contents self.old self.new }
     {
         let mut spending = before;
         for _ in 0..MAX_PASSES {
@@ -34,7 +34,7 @@ impl<S: Read + Write + OpenStream + Drop, R: Readiness<S>> Server<S, R> {
                 return spending;
             };
             spending.spend(cost);
-            if !spending.allows_more() || !self.told_has_place() {
+            if !spending.allows_more() || !self.told_may_read_ahead() {
                 return spending;
             }
         }
@@ -44,7 +44,7 @@ impl<S: Read + Write + OpenStream + Drop, R: Readiness<S>> Server<S, R> {
     /// Does all wills that are left, as far as there is memory. Returns whether none is left.
     #[tactic(auto, using(crate::proofs::Rules::advances))]
     pub(super) fn finish_wills<J: ConnectionLog>(&mut self, alloc: Global, log: &mut J) -> bool
-        ensures kept { KeepsFewer S.remaining self.old self.new }
+        ensures kept { KeepsFewer S.remaining S.contents self.old self.new }
         ensures none { result ≡ (length self.new.hub.wills == 0) }
     {
         self.do_each_will(alloc, log);
@@ -53,7 +53,7 @@ impl<S: Read + Write + OpenStream + Drop, R: Readiness<S>> Server<S, R> {
 
     #[tactic(auto, using(crate::proofs::Rules::advances))]
     fn do_each_will<J: ConnectionLog>(&mut self, alloc: Global, log: &mut J)
-        ensures { KeepsFewer S.remaining self.old self.new }
+        ensures { KeepsFewer S.remaining S.contents self.old self.new }
     {
         for _ in 0..MAX_SESSIONS {
             if self.do_will(alloc, log).is_none() {
@@ -67,7 +67,7 @@ impl<S: Read + Write + OpenStream + Drop, R: Readiness<S>> Server<S, R> {
     /// `None` if none is left, or if memory was refused again, so that it is left.
     #[tactic(auto, using(crate::proofs::Rules::advances))]
     fn do_will<J: ConnectionLog>(&mut self, alloc: Global, log: &mut J) -> Option<u64>
-        ensures { KeepsFewer S.remaining self.old self.new }
+        ensures { KeepsFewer S.remaining S.contents self.old self.new }
     {
         let before = self.hub.cost();
         let is_done = match self.try_will(alloc) {
@@ -89,7 +89,7 @@ impl<S: Read + Write + OpenStream + Drop, R: Readiness<S>> Server<S, R> {
     /// Does the oldest will that is left. Returns whether there was one.
     #[tactic(auto, using(crate::proofs::Rules::house))]
     fn try_will(&mut self, alloc: Global) -> Result<bool, AllocError>
-        ensures { KeepsFewer S.remaining self.old self.new }
+        ensures { KeepsFewer S.remaining S.contents self.old self.new }
     {
         match self.hub.do_will(alloc) {
             Ok(done) => Ok(done.is_some()),

@@ -25,7 +25,7 @@ impl<S: Read + Write + OpenStream + Drop, R: Readiness<S>> Server<S, R> {
     /// of others, and then to all for which something waits.
     #[tactic(auto, using(crate::proofs::Rules::advances))]
     pub(super) fn write<J: ConnectionLog>(&mut self, alloc: Global, log: &mut J)
-        ensures { KeepsFewer S.remaining self.old self.new }
+        ensures { KeepsFewer S.remaining S.contents self.old self.new }
     {
         self.write_each(alloc, Output::Corked, log);
         if !self.output.is_full() {
@@ -37,7 +37,7 @@ impl<S: Read + Write + OpenStream + Drop, R: Readiness<S>> Server<S, R> {
     /// Queues the connections that were held back.
     #[tactic(auto, using(crate::proofs::Rules::advances))]
     fn release(&mut self)
-        ensures { KeepsFewer S.remaining self.old self.new }
+        ensures { KeepsFewer S.remaining S.contents self.old self.new }
     {
         for _ in 0..self.queues.held_back() {
             if let Some(key) = self.queues.pop_held_back() {
@@ -50,7 +50,7 @@ impl<S: Read + Write + OpenStream + Drop, R: Readiness<S>> Server<S, R> {
     /// draws. The links that were not reached come first in the next pass.
     #[tactic(auto, using(crate::proofs::Rules::advances))]
     fn write_each<J: ConnectionLog>(&mut self, alloc: Global, output: Output, log: &mut J)
-        ensures { KeepsFewer S.remaining self.old self.new }
+        ensures { KeepsFewer S.remaining S.contents self.old self.new }
     {
         let mut drawn = Spending::within(PASS_DRAWN);
         for _ in 0..self.queues.writers(output) {
@@ -65,7 +65,7 @@ impl<S: Read + Write + OpenStream + Drop, R: Readiness<S>> Server<S, R> {
     /// texts have that it drew.
     #[tactic(auto, using(crate::proofs::Rules::advances))]
     fn write_next<J: ConnectionLog>(&mut self, alloc: Global, output: Output, log: &mut J) -> u64
-        ensures { KeepsFewer S.remaining self.old self.new }
+        ensures { KeepsFewer S.remaining S.contents self.old self.new }
     {
         let Some(key) = self.queues.pop_writer(output) else {
             return 0;
@@ -102,8 +102,8 @@ impl<S: Read + Write + OpenStream + Drop, R: Readiness<S>> Server<S, R> {
 
     /// Whether no snapshot of a large document waits for a connection.
     pub(super) fn has_no_long_snapshot(&self, connection: &Connection<S>) -> bool {
-        let place = connection.room_place().unwrap_or(usize::MAX);
-        match self.hub.room_at(place) {
+        let index = connection.room_index().unwrap_or(usize::MAX);
+        match self.hub.room_at(index) {
             Some(room) => room.weight <= SMALL || !connection.may_be_due(&self.hub),
             None => true,
         }
@@ -126,7 +126,7 @@ impl<S: Read + Write + OpenStream + Drop, R: Readiness<S>> Server<S, R> {
         draws: u64,
         log: &mut J,
     ) -> u64
-        ensures { KeepsFewer S.remaining self.old self.new }
+        ensures { KeepsFewer S.remaining S.contents self.old self.new }
     {
         let Some(connection) = self.connections.get_mut(key) else {
             return 0;

@@ -1,5 +1,5 @@
 -- The link makes a turn, or nothing changes.
-use Rattle.std.proofs.Common.{sym}
+use Rattle.std.proofs.Common.{sym, inr}
 use Rattle.relay_event_loop.proofs.Advancing.{advances_then}
 use Rattle.relay_event_loop.proofs.Held.{turned, unmoved, no_more, no_more_then}
 use Rattle.relay_event_loop.proofs.server.Server.read_link.Goals as goal
@@ -9,8 +9,9 @@ returns g c = (
   (
     c.finish_turn.ensures.0.0,
     advances_then (turned c.args.self.now.connections c.args.key c.in-Some.connection.now _
-        (sym c.in-Some.ensures.value) _ _ _ c.in-Ok.ensures.turns.follows
-        c.in-Ok.ensures.turns.received c.in-Ok.ensures.turns.passes) c.finish_turn.ensures.0.1,
+        (sym c.in-Some.ensures.value) _ _ _ c.args.self.now.entrance c.in-Ok.ensures.turns.follows
+        c.in-Ok.ensures.turns.received c.in-Ok.ensures.turns.passes
+        (inr c.in-Ok.ensures.frames) c.in-Ok.ensures.replies) c.finish_turn.ensures.0.1,
   ),
   no_more_then _ _ _ c.finish_turn.ensures.1
       (no_more c.args.self.now.connections c.args.key c.in-Some.connection.now _

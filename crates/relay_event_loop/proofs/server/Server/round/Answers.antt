@@ -9,4 +9,4 @@ returns-clause-rounds g c =
     advances_then (advances_then begun c.accept.ensures.0.1) c.read-spending.ensures.0.1 in
     let written =
     advances_then (advances_then read c.write.ensures.0.1) c.serve_owing.ensures.0.1 in
-    rounds_of (advances_then written c.make_place.ensures.0.1)
+    rounds_of (advances_then written c.make_room.ensures.0.1)

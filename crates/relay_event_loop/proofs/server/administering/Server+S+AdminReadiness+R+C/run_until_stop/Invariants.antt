@@ -3,4 +3,4 @@ use Rattle.relay_event_loop.specs.Advances.{KeepsWithin}
 use Rattle.relay_event_loop.proofs.server.administering.Server+S+AdminReadiness+R+C.run_until_stop.Given as goal
 
 abbrev pub invariant-loop-before : goal.invariant-loop-before
-invariant-loop-before g l = KeepsWithin g.S.Read.remaining l.initial.self l.self
+invariant-loop-before g l = KeepsWithin g.S.Read.remaining g.S.Write.contents l.initial.self l.self
