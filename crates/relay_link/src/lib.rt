@@ -5,8 +5,8 @@
 //! each of them names the link's own session or opens it. If it leaves the link open, each text
 //! that it drew is framed whole and in order, and a turn that reads nothing frames nothing else. If
 //! it found the link open too, it drew until nothing waited, it had drawn as many as it may, the
-//! stream took no output, or memory was refused. A link that is closing or gone has no session. What
-//! the other side does can end no link but its own.
+//! stream took no output, or memory was refused. A link that is closing or gone has no session.
+//! What the other side does can end no link but its own.
 //!
 //! No call blocks. A stream that returns `WouldBlock`, or is interrupted, ends the turn early and
 //! is tried again in the next.

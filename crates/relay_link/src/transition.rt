@@ -6,8 +6,8 @@ use crate::socket::Socket;
 use crate::state::State;
 use std::io::Write;
 
-/// The link's state after a turn, the cause if the link left a stage that needs one, and why it drew
-/// no more if it was open and still is.
+/// The link's state after a turn, the cause if the link left a stage that needs one, and why it
+/// drew no more if it was open and still is.
 #[derive(Drop)]
 pub(crate) struct Transition<S: Write + Drop> {
     pub state: State<S>,
