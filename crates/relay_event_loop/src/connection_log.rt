@@ -25,8 +25,8 @@ pub enum LogEntry<'a> {
         cause: EndCause,
         rounds: u64,
     },
-    /// It was the oldest connection without a session when a place was needed, `rounds` rounds
-    /// after it was accepted.
+    /// It was the oldest connection without a session when room was needed for another, `rounds`
+    /// rounds after it was accepted.
     Evicted {
         connection: ConnectionId,
         rounds: u64,
@@ -166,7 +166,7 @@ fn cause_word(cause: EndCause) -> &'static str {
     }
 }
 
-/// Receives an entry for each connection that opens, is refused, ends or makes place, and if memory
+/// Receives an entry for each connection that opens, is refused, ends or is evicted, and if memory
 /// was refused.
 pub trait ConnectionLog {
     fn record(&mut self, entry: LogEntry<'_>);

@@ -1,4 +1,4 @@
-//! The log of a connection that makes place for another one.
+//! The log of a connection that is evicted for another one.
 use crate::connection_log::{ConnectionLog, LogEntry};
 
 /// A log that passes entries on, and the end of a connection as its eviction.

@@ -20,7 +20,7 @@ at 951868799999 => time=2000-02-29T23:59:59.999Z level=warn event=out-of-memory\
 at 4107542399001 => time=2100-02-28T23:59:59.001Z level=warn event=out-of-memory\n
 at 4107542400010 => time=2100-03-01T00:00:00.010Z level=warn event=out-of-memory\n
 
-# A line says what happened to which connection. It is a warning if memory is short, or if the connection had to make place.
+# A line says what happened to which connection. It is a warning if memory is short, or if the connection was evicted.
 says opened => time=1970-01-01T00:00:00.000Z level=info event=opened peer=127.0.0.1:51000 link=7 session=12 room=board\n
 says left Peer => time=1970-01-01T00:00:00.000Z level=info event=ended peer=127.0.0.1:51000 link=7 session=12 room=board cause=peer rounds=3\n
 says ended Stream => time=1970-01-01T00:00:00.000Z level=info event=ended peer=127.0.0.1:51000 link=7 cause=stream rounds=3\n
