@@ -346,7 +346,7 @@ module _ {S : Type 0} {remaining contents : S → Option (List ℕ)} where
   advance_each (stays same) is each =
       (is, one_each_same (λ t. refl) (λ k. ap (option_and_then session_of) (same k)) each)
   advance_each (turns {held = held} {new = new} {was = was} {is = now} before key events had has
-      others follows received passes) is each =
+      others follows received passes sends) is each =
       let earlier = advance_each before is each in
       let mine = one_each_same (λ t. refl) (λ k.
       sym (set_back key (session_of was) (sessions_in held) (sessions_in held)
