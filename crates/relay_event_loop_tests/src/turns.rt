@@ -10,7 +10,7 @@ send 3 says {"do":"watch","id":1,"view":[""]}
 rounds 2
 clear 3
 20 edit-beside 3 => 1 and 0 of the others, 1 writes
-each 3 send stretches 120000 {"do":"edit","id":3,"patch":[{"op":"add","path":"","value":"*"}]}
+each 3 send stretches 30000 {"do":"edit","id":3,"patch":[{"op":"add","path":"","value":["*"]},{"op":"copy","from":"","path":"/-"},{"op":"copy","from":"","path":"/-"},{"op":"copy","from":"","path":"/-"}]}
 3 edit-beside 3 => 1 and 1 of the others, 2 writes
 edit-beside 3 => 1 and 0 of the others, 1 writes
 
@@ -21,7 +21,7 @@ send 3 says {"do":"watch","id":1,"view":[""]}
 rounds 2
 clear 3
 20 edit-beside 3 => 1 and 0 of the others, 1 writes
-each 3 send says {"do":"edit","id":3,"patch":[{"op":"add","path":"","value":["aaaaaaaaaaaaaaaaaaaaaaaaaaaaaaaaaaaaaaaaaaaaaaaaaaaaaaaaaaaaaaaaaaaaaaaaaaaaaaaaaaaaaaaaaaaaaaaaaaaa"]},{"op":"copy","from":"","path":"/-"},{"op":"copy","from":"","path":"/-"},{"op":"copy","from":"","path":"/-"},{"op":"copy","from":"","path":"/-"},{"op":"copy","from":"","path":"/-"},{"op":"copy","from":"","path":"/-"},{"op":"copy","from":"","path":"/-"},{"op":"copy","from":"","path":"/-"},{"op":"copy","from":"","path":"/-"},{"op":"copy","from":"","path":"/-"}]}
+each 3 send says {"do":"edit","id":3,"patch":[{"op":"add","path":"","value":["aaaaaaaaaaaaaaaaaaaaaaaaaaaaaaaaaaaaaaaaaaaaaaaaaaaaaaaaaaaaaaaaaaaaaaaaaaaaaaaaaaaaaaaaaaaaaaaaaaaa"]},{"op":"copy","from":"","path":"/-"},{"op":"copy","from":"","path":"/-"},{"op":"copy","from":"","path":"/-"},{"op":"copy","from":"","path":"/-"},{"op":"copy","from":"","path":"/-"},{"op":"copy","from":"","path":"/-"},{"op":"copy","from":"","path":"/-"},{"op":"copy","from":"","path":"/-"},{"op":"copy","from":"","path":"/-"},{"op":"copy","from":"","path":"/-"},{"op":"copy","from":"","path":"/-"}]}
 3 edit-beside 3 => 1 and 1 of the others, 2 writes
 edit-beside 3 => 1 and 0 of the others, 1 writes
 
