@@ -164,13 +164,16 @@ impl<S: Read + Write + OpenStream + Drop, R: Readiness<S>> Server<S, R> {
     /// the same to all ([`relay_schedule::ReadyQueue`]). A room may be read ahead if none of its
     /// connections waits to be written to, or less was said there since they last were than half of
     /// what may wait for a session. So a client that has credit waits for one turn of each that has
-    /// credit too, and for the last turn of those who owe. A turn that is out of memory is left for
-    /// the next round, and the hub gives memory back ([`relay_hub::Hub::shed`]), so that resumes
-    /// and waiting patches become snapshots. Links that are gone are dropped. If it is unknown what
-    /// is ready, everything counts as ready.
+    /// credit too, and for the last turn of those who owe. Once memory was refused to a turn, the
+    /// hub gives some back ([`relay_hub::Hub::shed`]), so that resumes and waiting patches become
+    /// snapshots; what was to be drawn is drawn in a later round, but a link that had read a text
+    /// for which there is none ends. Links that are gone are dropped. If it is unknown what is
+    /// ready, everything counts as ready.
     ///
-    /// Once the links hold as much output as they may, no long snapshot is drawn, and each second
-    /// those that hold the most and take no more are ended: nothing waits, or for 30 seconds.
+    /// Once the links hold as much output as they may, no snapshot of a document that weighs more
+    /// than 4,096 is drawn. Each second those with the largest buffers are then ended, if nothing
+    /// waits in them, since a buffer keeps its largest size, or if nothing of them was taken for 30
+    /// seconds.
     #[tactic(auto, using(crate::proofs::Rules::rounds))]
     pub fn round<L: OpenListener<Stream = S>, J: ConnectionLog>(
         &mut self,

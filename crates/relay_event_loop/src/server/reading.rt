@@ -123,6 +123,7 @@ impl<S: Read + Write + OpenStream + Drop, R: Readiness<S>> Server<S, R> {
         ensures { KeepsFewer S.remaining S.contents self.old self.new }
     {
         let mut spending = before;
+        // If nobody owes, one look is made all the same: it begins the next round of credit.
         for _ in 0..self.queues.ready.owing().max(1) {
             if spending != before && !spending.allows_more() {
                 return spending;
@@ -150,8 +151,8 @@ impl<S: Read + Write + OpenStream + Drop, R: Readiness<S>> Server<S, R> {
     }
 
     /// How many messages a read turn of a connection may draw now: one, or none if a long snapshot
-    /// may be due. `None` if it is not to be read: a reply can be sent before, its room may
-    /// not be read ahead, or there is nothing to read.
+    /// may be due. `None` if it must not be read now: a waiting reply can be sent first, its room
+    /// may not be read ahead, or there is nothing to read.
     fn read_turn_draws(&self, key: usize) -> Option<u64> {
         let connection = self.connections.get(key)?;
         let may_read_ahead = match connection.room_index() {
