@@ -4,7 +4,7 @@ use Rattle.std.specs.Prelude.{option_map}
 use Rattle.std.proofs.lemmas.Bool.Decides.{nat_tests}
 use Rattle.relay_follow.specs.Hearing.{told}
 use Rattle.relay_hub.specs.Admitted.{affordable, unless_unpaid, unpaid_slot}
-use Rattle.relay_hub.specs.Log.{Log, Place, Watching, begun, entry, home, documents, watching, hearing, resumes_from, asked, asked_at_home}
+use Rattle.relay_hub.specs.Log.{Log, Stay, Watching, begun, entry, home, documents, watching, hearing, resumes_from, asked, asked_at_home}
 use Rattle.relay_hub.specs.Session.{Session, later}
 use Rattle.relay_hub.specs.Stands.{HoldsPresent}
 use Rattle.relay_hub.specs.State.{State, RoomSessions, home_of, session_in}
@@ -110,8 +110,8 @@ affordable_ok budget (Ok (Resume id epoch rev pointers)) asked is =
     ap Ok (unless_ok (unpaid_slot 0 budget pointers) id (Resume id epoch rev pointers) asked is)
 
 tracks_at_home : (c : Client) (b : HubConfig) (ds : List ℕ
-    → List Document) (was : Option Watching) (there : Option Place) (text : List ℕ)
-    → ((id rev : ℕ) (pointers : View) (home : Place) (d : Document) → there ≡ Some home
+    → List Document) (was : Option Watching) (there : Option Stay) (text : List ℕ)
+    → ((id rev : ℕ) (pointers : View) (home : Stay) (d : Document) → there ≡ Some home
     → request_of_text text ≡ Ok (Resume id b.epoch rev pointers)
     → slice_get (ds home.room) rev ≡ Some d → c ≡ holds rev (view pointers d))
     → Tracks c was → Tracks c (asked_at_home b ds was there text)

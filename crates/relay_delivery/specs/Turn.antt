@@ -2,7 +2,7 @@
 use Rattle.std.specs.Prelude.{◌≡◌, ◌≢◌, ◌⊎◌, ⊤, ℕ, List, [], Option, None, Some, Ok, slice_get, IsUtf8}
 use Rattle.std.specs.List.{AllByRecursion}
 use Rattle.relay_delivery.specs.Texts.{told_all}
-use Rattle.relay_hub.specs.Log.{Log, Place, Watching, home, documents, watching}
+use Rattle.relay_hub.specs.Log.{Log, Stay, Watching, home, documents, watching}
 use Rattle.relay_hub.specs.Session.{Session, later}
 use Rattle.relay_hub.specs.Stands.{StandsFor, HoldsPresent}
 use Rattle.relay_hub.specs.State.{State, RoomSessions, home_of, session_in}
@@ -42,7 +42,7 @@ pub record KeepsUp (b : HubConfig) (E : Log) (hub : State) (s : ℕ) (c : Client
 -- view of that revision
 abbrev pub StartsAsHeld : HubConfig → Log → ℕ → Client → Event → Type 0
 StartsAsHeld b E s c (Receive t text) =
-    (id rev : ℕ) (pointers : View) (there : Place) (d : Document) → home E s ≡ Some there
+    (id rev : ℕ) (pointers : View) (there : Stay) (d : Document) → home E s ≡ Some there
     → request_of_text text ≡ Ok (Resume id b.epoch rev pointers)
     → slice_get (documents E there.room) rev ≡ Some d → c ≡ holds rev (view pointers d)
 StartsAsHeld b E s c _ = ⊤

@@ -15,7 +15,7 @@ use Rattle.relay_room.specs.Room.{begun, revision}
 use Rattle.relay_room.proofs.Rooms.{begun_is_room}
 use Rattle.relay_tree.specs.Document.{Document, null}
 use Rattle.relay_tree.specs.declared.count.TheConstants.{MAX_COUNT}
-use Rattle.relay_hub.specs.Log.{Log, Entry, entry, index, home, is_opened, documents, reaching, beginning, watching}
+use Rattle.relay_hub.specs.Log.{Log, Entry, entry, stay, home, is_opened, documents, reaching, beginning, watching}
 use Rattle.relay_hub.specs.Session.{newcomer}
 use Rattle.relay_hub.specs.Stands.{RoomStands, OutboxStands, RoomSessionsStand, HomeStands, MayBegin, named_will, StandsFor}
 use Rattle.relay_hub.specs.State.{RoomSessions, room_sessions, State, RoomOf, index_of, index_named, vacant_in, Home, above, floor_over, floor_at, is_crowded, session_in}
@@ -210,7 +210,7 @@ module _ (b : HubConfig) (E : Log) (old new : State) (name : List ℕ) (access :
             enters.7.1.found t,
             is.0,
           )
-              (ap (λ k. Some (index k access [])) (sym same), welcome, (refl, refl, refl))
+              (ap (λ k. Some (stay k access [])) (sym same), welcome, (refl, refl, refl))
           | inr apart ↦
               let o = others_home t apart.1 in
               rw (o.2, enters.5)

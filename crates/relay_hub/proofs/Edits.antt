@@ -9,7 +9,7 @@ use Rattle.relay_room.specs.Edit.{edited_at, edited}
 use Rattle.relay_room.specs.Room.{State as Room, revision}
 use Rattle.relay_tree.specs.Document.{Document}
 use Rattle.relay_hub.specs.Allowance.{Allowance}
-use Rattle.relay_hub.specs.Log.{Watching, Place, present_of, next_document}
+use Rattle.relay_hub.specs.Log.{Watching, Stay, present_of, next_document}
 use Rattle.relay_hub.specs.Session.{Session}
 use Rattle.relay_hub.specs.Stands.{RoomStands, OutboxStands, WatchStands, SessionStands}
 use Rattle.relay_hub.specs.Step.{telling_within, NotifiedView, NotifiedAs}
@@ -70,7 +70,7 @@ module _ {from : ℕ} (most : HubConfig) (k : ℕ) (ds : List Document) (d : Doc
   notified_stands allowance _ short x y _ e notified contents watch = absurd (cc (e, watch.0))
 
   pub notified_session : (before later : List ℕ
-      → List Document) (name : List ℕ) (o p : Option Session) (there : Option Place)
+      → List Document) (name : List ℕ) (o p : Option Session) (there : Option Stay)
       (w : Option Watching) → before name ≡ ds → later name ≡ ds ++ d ∷ []
       → IsNotified room.document changes next o p → SessionStands k before name room o there w
       → SessionStands k later name next p there w

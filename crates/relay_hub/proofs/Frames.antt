@@ -3,7 +3,7 @@ use Rattle.std.proofs.Common.{◌≡◌, ◌≢◌, ℕ, ◌==◌, true, List, �
 use Rattle.std.proofs.lemmas.Bool.Decides.{eqb_tells}
 use Rattle.relay_room.specs.Room.{State as Room}
 use Rattle.relay_tree.specs.Document.{Document}
-use Rattle.relay_hub.specs.Log.{Log, Entry, Watching, Place, index, home, is_opened, documents, beginning, watching, left, opened, open_count}
+use Rattle.relay_hub.specs.Log.{Log, Entry, Watching, Stay, stay, home, is_opened, documents, beginning, watching, left, opened, open_count}
 use Rattle.relay_hub.specs.Session.{Session}
 use Rattle.relay_hub.specs.Stands.{RoomStands, OutboxStands, WatchStands, SessionStands, RoomSessionsStand, HomeStands, MayBegin, named_will, StandsFor}
 use Rattle.relay_hub.specs.State.{RoomSessions, State, HaveRooms, RoomOf, Home, index_of, index_named, session_in}
@@ -30,7 +30,7 @@ session_stands b E hub t r h at = rw (at, r.there) at (h.sessions t)
 
 -- a session that is open
 pub here : (b : HubConfig) (E : Log) (hub : State) (s : ℕ) (mine : Home hub s) → StandsFor b E hub
-    → (home E s ≡ Some (index mine.room.name mine.session.access mine.session.will))
+    → (home E s ≡ Some (stay mine.room.name mine.session.access mine.session.will))
     × OutboxStands b.max_waiting_patches mine.session
     × WatchStands (documents E mine.room.name) mine.room.room_sessions.room mine.session
     (watching b E s)
@@ -50,7 +50,7 @@ names_apart b E hub index p name known g k h at there apart same =
 
 -- a session needs only the same documents of its room, the same home and the same watching
 pub session_stays : (most : ℕ) (ds es : List ℕ
-    → List Document) (name : List ℕ) (room : Room) (o : Option Session) (there : Option Place)
+    → List Document) (name : List ℕ) (room : Room) (o : Option Session) (there : Option Stay)
     (w : Option Watching) → es name ≡ ds name
     → SessionStands most ds name room o there w → SessionStands most es name room o there w
 session_stays most ds es name room (Some x) there w same h =
@@ -59,7 +59,7 @@ session_stays most ds es name room None there w same h = h
 
 pub room_sessions_stay : (most : ℕ) (ds es : List ℕ
     → List Document) (t : ℕ) (o : Option (List ℕ
-    × RoomSessions)) (there : Option Place) (w : Option Watching)
+    × RoomSessions)) (there : Option Stay) (w : Option Watching)
     → ((name : List ℕ) (g : RoomSessions) → o ≡ Some (name, g) → es name ≡ ds name)
     → RoomSessionsStand most ds t o there w → RoomSessionsStand most es t o there w
 room_sessions_stay most ds es t (Some r) there w same h =
@@ -68,7 +68,7 @@ room_sessions_stay most ds es t None there w same h = h
 
 home_stays : (most : ℕ) (ds es : List ℕ
     → List Document) (rooms : List (List ℕ
-    × RoomSessions)) (t : ℕ) (o : Option ℕ) (there : Option Place) (w : Option Watching)
+    × RoomSessions)) (t : ℕ) (o : Option ℕ) (there : Option Stay) (w : Option Watching)
     → ((name : List ℕ) → es name ≡ ds name) → HomeStands most ds rooms t o there w
     → HomeStands most es rooms t o there w
 home_stays most ds es rooms t (Some p) there w same h =
@@ -151,7 +151,7 @@ module _ (b : HubConfig) (E : Log) (e : Entry) (old : State) (r : RoomOf old) (h
       subst (MayBegin old.floor) (sym (elsewhere other apart)) (stands.others other absent)
 
   -- a session in another room is unchanged, and one in this room is notified
-  pub set_home : (t : ℕ) (there : Option Place) (w : Option Watching)
+  pub set_home : (t : ℕ) (there : Option Stay) (w : Option Watching)
       → (index_of old t ≢ Some r.index → there ≡ home E t)
       → (index_of old t ≢ Some r.index → w ≡ watching b E t)
       → (index_of old t ≡ Some r.index
@@ -239,7 +239,7 @@ module _ (b : HubConfig) (E : Log) (e : Entry) (old : State) (r : RoomOf old) (h
   pub session_changes : left (e ∷ E) ≡ left E → beginning (e ∷ E) r.name ≡ beginning E r.name
       → Quiet E e → ((other : List ℕ) → documents (e ∷ E) other ≡ documents E other)
       → (s : ℕ) (y : Session) → index_of old s ≡ Some r.index
-      → home (e ∷ E) s ≡ Some (index r.name y.access y.will)
+      → home (e ∷ E) s ≡ Some (stay r.name y.access y.will)
       → ChangesOnly s (Some y) r.room_sessions h
       → ((t : ℕ) → s ≢ t → (home (e ∷ E) t ≡ home E t) × (watching b (e ∷ E) t ≡ watching b E t))
       → OutboxStands b.max_waiting_patches y

@@ -12,7 +12,7 @@ use Rattle.relay_room.specs.Room.{revision}
 use Rattle.relay_tree.specs.Document.{Document, null}
 use Rattle.relay_tree.specs.declared.count.TheConstants.{MAX_COUNT}
 use Rattle.relay_hub.specs.Admitted.{permitted}
-use Rattle.relay_hub.specs.Log.{Log, Place, Bequest, index, entry, home, left, document_left, documents, documents_after, document_added, extended, requested, reaching, beginning, beginning_after}
+use Rattle.relay_hub.specs.Log.{Log, Stay, Bequest, stay, entry, home, left, document_left, documents, documents_after, document_added, extended, requested, reaching, beginning, beginning_after}
 use Rattle.relay_hub.specs.Stands.{MayBegin}
 use Rattle.relay_hub.specs.Session.{Session}
 use Rattle.relay_hub.specs.State.{RoomSessions, index_named, is_null, is_evictable, above, vacant_index}
@@ -225,7 +225,7 @@ may_begin_again floor g ds made first over = go (revision g.room) made over
 
 -- a text that asks for no edit, or for a refused one, adds no document anywhere
 pub none_added : (E : Log) (s short : ℕ) (text name : List ℕ) (access : Access) (will : List Op)
-    → home E s ≡ Some (index name access will)
+    → home E s ≡ Some (stay name access will)
     → requested (documents E name) (permitted access (request_of_text text)) ≡ None
     → (other : List ℕ) → documents (entry (Receive s text) (Heard (Answered short)) ∷ E) other
     ≡ documents E other
@@ -241,7 +241,7 @@ none_added E s short text name access will at none other =
     (λ apart. refl))
 
 pub one_added : (E : Log) (s short : ℕ) (text name : List ℕ) (access : Access) (will : List Op)
-    (d : Document) → home E s ≡ Some (index name access will)
+    (d : Document) → home E s ≡ Some (stay name access will)
     → requested (documents E name) (permitted access (request_of_text text)) ≡ Some d
     → documents (entry (Receive s text) (Heard (Answered short)) ∷ E) name
     ≡ documents E name ++ d ∷ []
@@ -250,7 +250,7 @@ one_added E s short text name access will d at adds =
     rw (at, same, adds) refl
 
 pub others_stay : (E : Log) (s short : ℕ) (text name : List ℕ) (access : Access) (will : List Op)
-    → home E s ≡ Some (index name access will)
+    → home E s ≡ Some (stay name access will)
     → (other : List ℕ) → other ≢ name
     → documents (entry (Receive s text) (Heard (Answered short)) ∷ E) other ≡ documents E other
 others_stay E s short text name access will at other apart =
@@ -282,7 +282,7 @@ first_document (e ∷ E) name =
     reached true ds rev h = append ds (replicate (rev + 1 - length ds) null) h
     reached false ds rev h = h
 
-    after : (homes : ℕ → Option Place) (wills : List Bequest) (ds : List Document) (event : Event)
+    after : (homes : ℕ → Option Stay) (wills : List Bequest) (ds : List Document) (event : Event)
         (answer : Answer) → slice_get ds 0 ≡ Some null
         → slice_get (documents_after homes wills ds name event answer) 0 ≡ Some null
     after homes wills ds (Open room access) (Opened o) h = reached (bytes_eq room name) ds o.rev h
@@ -353,7 +353,7 @@ beginning_within (e ∷ E) name =
         omega (arith, h, length-append ds (replicate (rev + 1 - length ds) null))
     reached false later ds rev was h = h
 
-    after : (homes : ℕ → Option Place) (wills : List Bequest) (was : ℕ) (ds : List Document)
+    after : (homes : ℕ → Option Stay) (wills : List Bequest) (was : ℕ) (ds : List Document)
         (event : Event) (answer : Answer) → was < length ds
         → beginning_after was ds name event answer
         < length (documents_after homes wills ds name event answer)

@@ -29,7 +29,7 @@ use Rattle.relay_tree.specs.Document.{Document, null}
 use Rattle.relay_tree.specs.declared.budget.Budget.{Budget}
 use Rattle.relay_view.specs.View.{View, view}
 use Rattle.relay_hub.specs.Admitted.{permitted, affordable, admitted}
-use Rattle.relay_hub.specs.Log.{Log, Watching as Watched, index, willed, will_after, begun, entry, home, documents, beginning, requested, asked, asked_at_home, watching}
+use Rattle.relay_hub.specs.Log.{Log, Watching as Watched, stay, willed, will_after, begun, entry, home, documents, beginning, requested, asked, asked_at_home, watching}
 use Rattle.relay_hub.specs.Refusal.{refused, edit_refusal, future_refusal}
 use Rattle.relay_hub.specs.Session.{Session, session_with, with_will, replied, leaves_will, watches, unwatches, resumes}
 use Rattle.relay_hub.specs.Stands.{RoomStands, OutboxStands, WatchStands, SessionStands, StandsFor}
@@ -153,7 +153,7 @@ module _ (b : HubConfig) (E : Log) (old : State) (s : ℕ) (mine : Home old s) (
   was : RoomStands b (beginning E mine.room.name) ds g.room
   was = stands.rooms mine.room.index mine.room.name g mine.room.there
 
-  at_home : (home E s ≡ Some (index mine.room.name x.access x.will))
+  at_home : (home E s ≡ Some (stay mine.room.name x.access x.will))
       × OutboxStands b.max_waiting_patches x × WatchStands ds g.room x (watching b E s)
   at_home = here b E old s mine stands
 
@@ -274,7 +274,7 @@ module _ (b : HubConfig) (E : Log) (old : State) (s : ℕ) (mine : Home old s) (
   module _ (id : ℕ) (base : Option ℕ) (patch : List Op) (read : permitted x.access sent
       ≡ Ok (Edit id base patch)) (sends : sent ≡ Ok (Edit id base patch)) (i : IsCount id) where
     -- an edit changes no session's watching
-    same_watching : home E s ≡ Some (index mine.room.name x.access x.will) → (t : ℕ)
+    same_watching : home E s ≡ Some (stay mine.room.name x.access x.will) → (t : ℕ)
         → watching b (entry (Receive s text) (Heard (Answered short)) ∷ E) t ≡ watching b E t
     same_watching s_home t =
         by_number (λ t c. (if c then asked_at t else watching b E t) ≡ watching b E t) s t
@@ -285,7 +285,7 @@ module _ (b : HubConfig) (E : Log) (old : State) (s : ℕ) (mine : Home old s) (
         asked_at t = asked_at_home b (documents E) (watching b E t) (home E t) text
 
     -- nor its will
-    same_home : home E s ≡ Some (index mine.room.name x.access x.will) → (t : ℕ)
+    same_home : home E s ≡ Some (stay mine.room.name x.access x.will) → (t : ℕ)
         → home (entry (Receive s text) (Heard (Answered short)) ∷ E) t ≡ home E t
     same_home s_home t =
         by_number (λ t c. (if c then option_map (willed text) (home E t) else home E t)

@@ -12,7 +12,7 @@ use Rattle.relay_translate.specs.Watches.{Watches}
 use Rattle.relay_tree.specs.Document.{Document}
 use Rattle.relay_tree.specs.declared.budget.Budget.{Budget}
 use Rattle.relay_tree.specs.declared.budget.Budget.TheVariants.{Unbounded}
-use Rattle.relay_hub.specs.Log.{Log, Watching, Place, Bequest, home, documents, watching}
+use Rattle.relay_hub.specs.Log.{Log, Watching, Stay, Bequest, home, documents, watching}
 use Rattle.relay_hub.specs.Session.{Session, with_outbox, later}
 use Rattle.relay_hub.specs.Shed.{shed_budget, fold_patches, shed_session, shed_room, shed_named, shed}
 use Rattle.relay_hub.specs.Stands.{RoomStands, OutboxStands, WatchStands, SessionStands, RoomSessionsStand, HomeStands, Follows, named_will, StandsFor}
@@ -205,7 +205,7 @@ watch_stands b ds room budget x None stands h = let i = idle x.outbox.patches h.
 
 session_stands : {from : ℕ} (b : HubConfig) (docs : List ℕ
     → List Document) (name : List ℕ) (room : Room) (budget : Budget) (o : Option Session)
-    (there : Option Place) (w : Option Watching)
+    (there : Option Stay) (w : Option Watching)
     → RoomStands b from (docs name) room
     → SessionStands b.max_waiting_patches docs name room o there w
     → SessionStands b.max_waiting_patches docs name (trimmed budget room)

@@ -37,15 +37,15 @@ Log = List Entry
 
 -- Which sessions are open, and in which room.
 
--- the name of the room in which a session is open, what it may do there, and its will, which may be
--- empty
-pub record Place : Type 0 where
+-- a session's stay: the name of the room in which it is open, what it may do there, and its will,
+-- which may be empty
+pub record Stay : Type 0 where
   pub room : List ℕ
   pub access : Access
   pub will : List Op
 
-abbrev pub index : List ℕ → Access → List Op → Place
-index name access will = record { room = name; access = access; will = will }
+abbrev pub stay : List ℕ → Access → List Op → Stay
+stay name access will = record { room = name; access = access; will = will }
 
 -- the will of a session after a request
 abbrev pub will_after : List Op → Result Request Refusal → List Op
@@ -53,21 +53,21 @@ will_after was (Ok (Will id patch)) = patch
 will_after was _ = was
 
 -- the same after a text of a session that is open there
-abbrev pub willed : List ℕ → Place → Place
+abbrev pub willed : List ℕ → Stay → Stay
 willed text p =
-    index p.room p.access (will_after p.will (permitted p.access (request_of_text text)))
+    stay p.room p.access (will_after p.will (permitted p.access (request_of_text text)))
 
 -- where session s is open, if it is, after an event
-abbrev pub home_after : Option Place → ℕ → Event → Answer → Option Place
+abbrev pub home_after : Option Stay → ℕ → Event → Answer → Option Stay
 home_after was s (Open name access) (Opened o) =
-    if o.session == s then Some (index name access []) else was
+    if o.session == s then Some (stay name access []) else was
 home_after was s (Receive t text) (Heard (Answered short)) =
     if t == s then option_map (willed text) was else was
 home_after was s (Close t) Closed = if t == s then None else was
 home_after was s _ _ = was
 
 -- where a session is open
-abbrev pub home : Log → ℕ → Option Place
+abbrev pub home : Log → ℕ → Option Stay
 home [] s = None
 home (e ∷ E) s = home_after (home E s) s e.event e.answer
 
@@ -93,11 +93,11 @@ abbrev pub left_in : List ℕ → List Op → List Bequest
 left_in name [] = []
 left_in name (op ∷ ops) = record { room = name; patch = op ∷ ops } ∷ []
 
-abbrev pub left_by : Option Place → List Bequest
+abbrev pub left_by : Option Stay → List Bequest
 left_by (Some p) = left_in p.room p.will
 left_by None = []
 
-abbrev pub left_after : (ℕ → Option Place) → List Bequest → Event → Answer → List Bequest
+abbrev pub left_after : (ℕ → Option Stay) → List Bequest → Event → Answer → List Bequest
 left_after homes was (Close s) Closed = was ++ left_by (homes s)
 left_after homes was DoWill (WillDone short) = drop 1 was
 left_after homes was _ _ = was
@@ -123,7 +123,7 @@ requested documents (Ok (Edit id base patch)) = next_document documents base pat
 requested documents _ = None
 
 -- the document that a text adds to the room of that name, if its sender is open there and may edit
-abbrev pub document_added : List Document → List ℕ → Option Place → List ℕ → Option Document
+abbrev pub document_added : List Document → List ℕ → Option Stay → List ℕ → Option Document
 document_added documents name (Some home) text =
     if bytes_eq home.room name
     then requested documents (permitted home.access (request_of_text text)) else None
@@ -145,7 +145,7 @@ extended documents (Some d) = documents ++ d ∷ []
 abbrev pub reaching : ℕ → List Document → List Document
 reaching rev documents = documents ++ replicate (rev + 1 - length documents) null
 
-abbrev pub documents_after : (ℕ → Option Place) → List Bequest → List Document → List ℕ → Event
+abbrev pub documents_after : (ℕ → Option Stay) → List Bequest → List Document → List ℕ → Event
     → Answer → List Document
 documents_after homes wills documents name (Open room access) (Opened o) =
     if bytes_eq room name then reaching o.rev documents else documents
@@ -220,14 +220,14 @@ asked epoch documents was (Ok (Resume id e rev pointers)) =
 asked epoch documents was _ = was
 
 -- the same of a session that is open in a room, in a hub of that configuration
-abbrev pub asked_at_home : HubConfig → (List ℕ → List Document) → Option Watching → Option Place
+abbrev pub asked_at_home : HubConfig → (List ℕ → List Document) → Option Watching → Option Stay
     → List ℕ → Option Watching
 asked_at_home b documents was (Some home) text =
     asked b.epoch (documents home.room) was (affordable b.view_weight (request_of_text text))
 asked_at_home b documents was None text = was
 
 -- the watching of session s after an event
-abbrev pub watching_after : HubConfig → (List ℕ → List Document) → Option Place → Option Watching
+abbrev pub watching_after : HubConfig → (List ℕ → List Document) → Option Stay → Option Watching
     → ℕ → Event → Answer → Option Watching
 watching_after b documents home was s (Open name access) (Opened o) =
     if o.session == s then None else was

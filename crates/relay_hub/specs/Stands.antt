@@ -16,7 +16,7 @@ use Rattle.relay_room.specs.CatchUp.{IsSent}
 use Rattle.relay_room.specs.Room.{State as Room, IsRoom, revision}
 use Rattle.relay_tree.specs.Document.{Document, null}
 use Rattle.relay_view.specs.View.{View, view}
-use Rattle.relay_hub.specs.Log.{Log, Watching, Place, index, home, is_opened, documents, beginning, present_of, watching, Bequest, left, opened, open_count}
+use Rattle.relay_hub.specs.Log.{Log, Watching, Stay, stay, home, is_opened, documents, beginning, present_of, watching, Bequest, left, opened, open_count}
 use Rattle.relay_hub.specs.Session.{Session, later}
 use Rattle.relay_hub.specs.State.{HaveRooms, State, IsConfig, RoomSessions, index_of, home_of, index_named, session_in}
 use Rattle.relay_tree.specs.declared.budget.Budget.TheVariants.{Unbounded}
@@ -99,21 +99,21 @@ WatchStands documents room x None =
     (x.view ≡ None) × (x.outbox.patches ≡ []) × (x.outbox.due ≡ false)
 
 abbrev pub SessionStands : ℕ → (List ℕ → List Document) → List ℕ → Room → Option Session
-    → Option Place → Option Watching → Type 0
+    → Option Stay → Option Watching → Type 0
 SessionStands most documents name room (Some x) there w =
-    (there ≡ Some (index name x.access x.will)) × OutboxStands most x
+    (there ≡ Some (stay name x.access x.will)) × OutboxStands most x
     × WatchStands (documents name) room x w
 SessionStands most documents name room None there w = ⊥
 
 abbrev pub RoomSessionsStand : ℕ → (List ℕ → List Document) → ℕ → Option (List ℕ × RoomSessions)
-    → Option Place → Option Watching → Type 0
+    → Option Stay → Option Watching → Type 0
 RoomSessionsStand most documents s (Some home) there w =
     SessionStands most documents home.0 home.1.room (session_in home.1.sessions s) there w
 RoomSessionsStand most documents s None there w = ⊥
 
 -- what holds of session s, whose room is at that index
 abbrev pub HomeStands : ℕ → (List ℕ → List Document) → List (List ℕ × RoomSessions) → ℕ → Option ℕ
-    → Option Place → Option Watching → Type 0
+    → Option Stay → Option Watching → Type 0
 HomeStands most documents rooms s (Some at) there w =
     RoomSessionsStand most documents s (slice_get rooms at) there w
 HomeStands most documents rooms s None there w = there ≡ None
