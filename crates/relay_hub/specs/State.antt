@@ -53,8 +53,8 @@ pub record IsConfig (config : HubConfig) : Type 0 where
   pub max_waiting_patches : (1 ≤ config.max_waiting_patches)
       × (config.max_waiting_patches ≤ MAX_PATCHES)
 
--- the configuration, the number of the next session, the revision at which a new room begins, the
--- rooms by name, each at its index (a new one comes last, or replaces one that is evictable),
+-- the configuration, the number of the next session, the least revision at which a new room begins,
+-- the rooms by name, each at its index (a new one comes last, or replaces one that is evictable),
 -- for each open session the index of its room, and the wills that closed sessions left and that are
 -- not done yet, the oldest first
 pub record State : Type 0 where
@@ -173,7 +173,7 @@ pub record Home (hub : State) (s : ℕ) : Type 0 where
 -- What holds of each hub.
 pub record IsHub (hub : State) : Type 0 where
   pub config : IsConfig hub.config
-  -- the revision at which a new room begins is a count
+  -- the least revision at which a new room begins is a count
   pub floor : hub.floor ≤ MAX_COUNT
   -- no session has the next number or a later one
   pub below : (t : ℕ) → hub.next ≤ t → index_of hub t ≡ None

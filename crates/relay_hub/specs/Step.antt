@@ -75,10 +75,10 @@ abbrev pub telling_within : Allowance → Budget → List Change → Room → Vi
 telling_within allowance budget changes room pointers =
     telling (within allowance pointers budget) changes room pointers
 
--- a watcher is notified of an edit in one of three ways: its outbox is unchanged, if its view is,
--- or if a snapshot is due already; a patch that brings its view to the new one is added, or a
--- snapshot is due in place of one that is too heavy or one too many; or the outbox folds because
--- memory ran out, and counts as short
+-- a watcher is notified of an edit in one of three ways: its outbox is unchanged, if no change
+-- touches a slot of its view, or if a snapshot is due already; a patch that brings its view to the
+-- new one is added, or a snapshot is due in place of one that is too heavy or one too many; or the
+-- outbox folds because memory ran out, and counts as short
 abbrev pub NotifiedView : Document → List Change → Room → Allowance → View → Bool → Session
     → Session → Type 0
 NotifiedView d changes room allowance pointers true x y =

@@ -44,7 +44,7 @@ pub struct Hub {
     config: HubConfig,
     /// The number of the next session. If it is above [`MAX_COUNT`], no number is left.
     next: u64,
-    /// The revision at which a new room begins.
+    /// The least revision at which a new room begins.
     floor: u64,
     /// The rooms by name, each at its index. A new one comes last, or replaces one that is
     /// evictable.
@@ -150,8 +150,9 @@ impl Hub {
     /// name, one begins, with the document `null`; if there are as many as may be, it replaces one
     /// in which nobody is and whose document is `null`, unless a will is left to be done. It begins
     /// at a revision above those of all rooms that were evicted, so that no client takes it for an
-    /// earlier one; 0 as long as no edit was accepted in these. A `Welcome` waits in the session's
-    /// outbox. An error leaves the hub unchanged. `NoMemory` comes only if no other error does.
+    /// earlier one; 0 as long as all of these were at revision 0. A `Welcome` waits in the
+    /// session's outbox. An error leaves the hub unchanged. `NoMemory` comes only if no other error
+    /// does.
     ///
     /// ```
     /// let mut hub = Hub::new(alloc, 1, 5, 64, 32).ok()?;
@@ -189,8 +190,8 @@ impl Hub {
         })
     }
 
-    /// The revision at which a new room begins once a session entered the room at `index`, or a new
-    /// one.
+    /// The floor after a session enters: the present one, if it enters the room at `index`; without
+    /// an index a room begins, and it is then above each revision of the room that this replaces.
     fn floor_after(&self, index: Option<usize>) -> u64
         ensures floor { result ≡ floor_after index self.now }
         ensures count { result ≤ MAX_COUNT }
@@ -423,6 +424,7 @@ impl Hub {
             → StandsFor b E self.new }
     {
         shed_rooms(&mut self.rooms, shed_budget(self.config.history_weight));
+        // No room keeps a text any more.
         self.kept_bytes = 0;
     }
 }

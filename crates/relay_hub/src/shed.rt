@@ -9,7 +9,8 @@ use crate::session::Session;
 use indexmap::IndexMap;
 use relay_tree::Budget;
 
-/// What the changes that a room remembers may weigh afterwards: nothing, unless they have no bound.
+/// What the changes that a room remembers may weigh afterwards: nothing, if their weight has a
+/// bound. Without one a room is promised its last revisions, whatever they weigh, and keeps them.
 pub fn shed_budget(budget: Budget) -> Budget
     ensures { result ≡ shed_budget budget }
 {

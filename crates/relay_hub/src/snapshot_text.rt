@@ -24,9 +24,9 @@ struct KeptText {
     text: String,
 }
 
-/// The text of a room's present snapshot for one view, if it is kept. It is from the second one on
-/// that is written for the same view, so that a room with one watcher keeps none. Contracts see the
-/// view and the bytes of the text that is kept.
+/// The text of a room's present snapshot for one view, if it is kept. A text is kept only once a
+/// second one is written for the same view, so that a room with one watcher keeps none. Contracts
+/// see the view and the bytes of the text that is kept.
 #[derive(Drop)]
 pub struct SnapshotText {
     /// The view whose snapshot was written last.
@@ -66,7 +66,8 @@ impl SnapshotText {
         }
     }
 
-    /// Drops the text if the request may change the room. Allocates nothing.
+    /// Drops the text if the request may change the room: an edit alone does. A will that is done,
+    /// and a room that is forgotten, drop it themselves. Allocates nothing.
     pub fn drop_over(&mut self, request: &Result<Request, Refusal>)
         ensures { self.new ≡ kept_over request.now self.old }
     {

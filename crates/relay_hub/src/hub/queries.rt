@@ -1,6 +1,6 @@
 //! What a hub tells of itself. Nothing here changes it.
 ghost use Rattle.std.specs.Prelude.{◌≡◌, ◌≢◌, ◌↔◌, Some, None, IfOk, IsErrOf, option_map, slice_get};
-ghost use Rattle.relay_hub.specs.State.{session_of};
+ghost use Rattle.relay_hub.specs.State.{IsHub, index_of, session_of};
 ghost use Rattle.relay_hub.specs.Session.{waiting};
 ghost use Rattle.relay_hub.specs.Summary.{room_named, shown_by, summary_of};
 ghost use Rattle.relay_hub.specs.Queries.{room_and_session, may_hear, truth};
@@ -17,9 +17,11 @@ use relay_tree::Tree;
 use std::alloc::Global;
 
 impl Hub {
-    /// The configuration that it was made with. Allocates nothing.
+    /// The configuration that it was made with. What holds of every hub holds of this one.
+    /// Allocates nothing.
     pub fn config(&self) -> HubConfig
-        ensures { result ≡ self.now.config }
+        ensures config { result ≡ self.now.config }
+        ensures is { IsHub self.now }
     {
         self.config
     }
@@ -86,8 +88,10 @@ impl Hub {
     }
 
     /// The index of the session's room ([`Hub::room_at`]), which it keeps while the session is
-    /// open. `None` if it is not open. No clause speaks of it. Allocates nothing.
-    pub fn room_of(&self, session: u64) -> Option<usize> {
+    /// open. `None` if it is not open. Allocates nothing.
+    pub fn room_of(&self, session: u64) -> Option<usize>
+        ensures { result ≡ index_of self.now session }
+    {
         self.homes.get(&session).copied()
     }
 
