@@ -51,6 +51,7 @@ impl<R: AllocGlobal> Subject<R> for Hubs {
             "told" => words(alloc, hub.told().sessions.as_slice()),
             "shed" => give_memory_back(alloc, hub),
             "counts" => counted(alloc, hub.message_counts()),
+            "costs" => words(alloc, lies_within(hub.cost(), rest)?),
             _ => act_on_one(alloc, hub, word, rest),
         }
     }
@@ -165,6 +166,12 @@ fn counted(alloc: Global, counts: &MessageCounts) -> Came {
     format!(in alloc;
         "{replies} {refusals} {patches}, watch {watch}, resume {resume}, edit {edit}, patches {full}, weight {heavy}, memory {memory}"
     ).ok()
+}
+
+/// Whether a number lies within two others, which stand in one text.
+fn lies_within(found: u64, bounds: &str) -> Option<bool> {
+    let (least, most) = bounds.split_once(' ')?;
+    Some(number(least)? <= found && found <= number(most)?)
 }
 
 /// Gives memory back, which always succeeds.

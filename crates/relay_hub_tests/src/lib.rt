@@ -11,6 +11,8 @@
 #[cfg(test)]
 mod calls;
 #[cfg(test)]
+mod costs;
+#[cfg(test)]
 mod counts;
 #[cfg(test)]
 mod follow;
