@@ -1,30 +1,90 @@
--- A flag that is not set leaves room for one more.
-use Rattle.std.proofs.Common.{◌≡◌, ℕ, List, Bool, true, false, Some, ◌<◌, length, arith, cond, sym, ◌∙◌, ap, slice_get, slice_set, slice_index_or}
+-- The flags of a queue's keys: a flag that is not set leaves room for one more, and flags that are
+-- added unset change nothing.
+use Rattle.std.proofs.Common.{◌≡◌, ℕ, zero, suc, List, [], ◌∷◌, ◌++◌, Bool, true, false, ◌+◌, ◌<◌, ◌≤◌, length, take, replicate, arith, cond, refl, sym, ◌∙◌, ap, slice_index_or, slice_set, nat_lt}
 use Rattle.std.specs.List.{count_by}
-use Rattle.std.proofs.lemmas.List.{length-set, get_or-set_same}
-use Rattle.std.proofs.lemmas.List.Sums.{sum_by-set, count_by-le-length}
-use Rattle.std.proofs.lemmas.Option.{get_or_from_slice_get, slice_get-get_or}
+use Rattle.std.proofs.lemmas.List.{length-set, length-append, length-replicate, get_or_past, take_all}
+use Rattle.std.proofs.lemmas.List.Sums.{sum_by-set, sum_by-append, count_by-le-length}
+use Rattle.std.proofs.lemmas.Bool.Decides.{nat_tests}
+use Rattle.relay_schedule.specs.Queue.{IsQueue, times}
+use Rattle.relay_schedule.specs.Representation.{Flagged, IsKept, keys_of}
+use Rattle.relay_schedule.specs.declared.key_queue.KeyQueue.TheInside.{Inside}
+use Rattle.relay_schedule.proofs.Times.{one_if}
 
-abbrev one_if : Bool → ℕ
-one_if b = cond b 1 0
+-- fewer flags are set than there are
+pub has_room : (flags : List Bool) (i : ℕ) (flag : Bool) → flag ≡ slice_index_or flags i flag
+    → flag ≡ false → i < length flags
+    → count_by (λ b. b) flags < length flags
+has_room flags i flag at unset within =
+    let sums = sum_by-set one_if flags i true flag within in
+    let most = count_by-le-length (λ b. b) (slice_set flags i true) in
+    let zero = ap one_if (sym at ∙ unset) in
+    omega (arith, sums, most, length-set flags i true, zero)
 
-module _ (flags : List Bool) (i : ℕ) (flag : Bool) (at : flag ≡ slice_index_or flags i flag)
-    (unset : flag ≡ false) where
-  pub has_room : i < length flags → count_by (λ b. b) flags < length flags
-  has_room within =
-      let sums = sum_by-set one_if flags i true flag within in
-      let most = count_by-le-length (λ b. b) (slice_set flags i true) in
-      let zero = ap one_if (sym at ∙ unset) in
-      omega (arith, sums, most, length-set flags i true, zero)
+unset_behind : (flags : List Bool) (n i : ℕ)
+    → slice_index_or (flags ++ replicate n false) i false ≡ slice_index_or flags i false
+unset_behind [] zero i = refl
+unset_behind [] (suc n) zero = refl
+unset_behind [] (suc n) (suc i) = unset_behind [] n i
+unset_behind (flag ∷ flags) n zero = refl
+unset_behind (flag ∷ flags) n (suc i) = unset_behind flags n i
 
-  pub is_unset : slice_get flags i ≡ Some true → false ≡ true
-  is_unset set = sym unset ∙ at ∙ get_or_from_slice_get flags i true flag set
+-- the flags after a `resize` that adds some, or that fails
+abbrev resized : Bool → ℕ → ℕ → List Bool → List Bool
+resized done count more flags = cond done (take count flags ++ replicate more false) flags
 
--- A flag that was set is set.
-pub now_set : (flags : List Bool) (i : ℕ) → i < length flags
-    → slice_get (slice_set flags i true) i ≡ Some true
-now_set flags i within =
-    let inside : i < length (slice_set flags i true) =
-    omega (arith, within, length-set flags i true) in
-    slice_get-get_or (slice_set flags i true) i false inside
-    ∙ ap Some (get_or-set_same flags i true false within)
+pub flagged_resized : (done : Bool) (count more : ℕ) (flags : List Bool) (keys : List ℕ)
+    → length flags ≤ count → Flagged flags keys
+    → Flagged (resized done count more flags) keys
+flagged_resized true count more flags keys few flagged =
+    rw (take_all count flags few)
+    (λ key. flagged key ∙ ap one_if (sym (unset_behind flags more key)))
+flagged_resized false count more flags keys few flagged = flagged
+
+pub fits_resized : (done : Bool) (count more len : ℕ) (flags : List Bool) → length flags ≤ count
+    → len ≤ count_by (λ b. b) flags
+    → len ≤ count_by (λ b. b) (resized done count more flags)
+fits_resized true count more len flags few fits =
+    rw (take_all count flags few)
+    (omega (arith, fits, sum_by-append one_if flags (replicate more false)))
+fits_resized false count more len flags few fits = fits
+
+pub room_resized : (done : Bool) (count more room : ℕ) (flags : List Bool) → length flags ≤ count
+    → more + length flags ≤ count → count ≤ room
+    → length (resized done count more flags) ≤ room
+room_resized true count more room flags few added within =
+    rw (take_all count flags few)
+    (omega (
+      arith,
+      added,
+      within,
+      length-append flags (replicate more false),
+      length-replicate more false,
+    ))
+room_resized false count more room flags few added within = omega (arith, few, within)
+
+-- a key whose flag is beyond the flags does not wait
+within_flags : (flags : List Bool) (keys : List ℕ) → Flagged flags keys → (key : ℕ)
+    → nat_lt 0 (times key keys) ≡ true
+    → key < length flags
+within_flags flags keys flagged key is =
+    go (nat_lt key (length flags)) refl
+  where
+    go : (inside : Bool) → nat_lt key (length flags) ≡ inside → key < length flags
+    go true known = grind (arith, nat_tests, known)
+    go false known =
+        let past : length flags ≤ key = grind (arith, nat_tests, known) in
+        let none : times key keys ≡ 0 =
+        flagged key ∙ ap one_if (get_or_past flags key false past) in
+        absurd (grind (arith, nat_tests, is, none))
+
+-- what the fields keep is what contracts see
+pub kept_is_queue : (queue : Inside) → IsKept queue → IsQueue (keys_of queue)
+kept_is_queue queue kept = record {
+  once = λ key. most key (slice_index_or queue.queued.items key false) (kept.flagged key);
+  admitted = within_flags queue.queued.items queue.keys.items kept.flagged;
+}
+  where
+    most : (key : ℕ) (flag : Bool) → times key queue.keys.items ≡ one_if flag
+        → times key queue.keys.items ≤ 1
+    most key true is = omega (arith, is)
+    most key false is = omega (arith, is)

@@ -1,2 +1,4 @@
-mod Flags
+pub mod Flags
+pub mod Lines
 pub mod Serving
+pub mod Times

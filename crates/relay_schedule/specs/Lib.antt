@@ -1,4 +1,9 @@
 pub mod Credit
+pub mod Empty
 pub mod Output
 pub mod Queue
+pub mod Queues
+pub mod Ready
+pub mod Representation
+pub mod Rooms
 pub mod Share

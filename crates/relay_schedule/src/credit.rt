@@ -1,6 +1,6 @@
 //! What a connection may cost before others have their turns.
 ghost use Rattle.std.specs.Prelude.{◌≡◌, ◌≤◌, ◌<◌, ◌+◌, ◌-◌, ◌^◌, min, nat_lt, if◌then◌else◌};
-ghost use Rattle.relay_schedule.specs.Credit.{left};
+ghost use Rattle.relay_schedule.specs.Credit.{left, has_credit};
 ghost use Rattle.relay_schedule.specs.declared.credit.TheConstants.{ROUND_CREDIT, ENTRY_DEBT};
 
 /// What a round gives, in microseconds.
@@ -52,7 +52,7 @@ impl Credit {
 
     /// Whether any is left.
     pub fn is_left(self) -> bool
-        ensures { result ≡ nat_lt self.spent ROUND_CREDIT }
+        ensures { result ≡ has_credit self }
     {
         self.spent < ROUND_CREDIT
     }

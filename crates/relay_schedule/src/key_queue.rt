@@ -1,28 +1,38 @@
 //! A queue of the keys of connections.
-ghost use Rattle.std.specs.Prelude.{◌≡◌, ◌≤◌, ◌⊎◌, [], ◌∷◌, ◌++◌, length, option_to_list, OnOk};
-ghost use Rattle.std.specs.List.{count_by};
-ghost use Rattle.std.specs.VecDeque.{deque_len, deque_capacity};
-
 use std::alloc::{AllocError, Global};
 use std::collections::VecDeque;
+use std::marker::Model;
 
 /// Keys in the order in which they came, each at most once. A key that was admitted is queued
-/// without memory.
+/// without memory. Contracts see it as `Keys`: the keys that wait, and how many are admitted.
 #[derive(Drop)]
 pub struct KeyQueue {
     keys: VecDeque<usize>,
     /// By key, whether it stands in the queue.
     queued: Vec<bool>,
-    ghost fits: { deque_len keys ≤ count_by (λ b. b) queued.items },
-    ghost room: { length queued.items ≤ deque_capacity keys },
+}
+
+impl Model for KeyQueue {
+    ghost use Rattle.relay_schedule.specs.Queue.{Keys, keys_code};
+
+    ghost Value = { Keys };
+
+    ghost coded = { keys_code };
+
+    ghost use Rattle.relay_schedule.specs.Representation.{keys_of, IsKept};
+
+    ghost view = { keys_of };
+
+    ghost invariant = { IsKept };
 }
 
 impl KeyQueue {
-    ghost use Rattle.relay_schedule.specs.Queue.{keys_of, Admits, IsQueued};
+    ghost use Rattle.std.specs.Prelude.{◌≡◌, IsOk, OnOk, OnErr, length};
+    ghost use Rattle.relay_schedule.specs.Queue.{IsQueue, Admits, no_keys, is_empty, waits, admitting, queued, first, without_first, served};
 
     /// A queue without keys, which admits none.
     pub fn new(alloc: Global) -> KeyQueue
-        ensures { keys_of result ≡ [] }
+        ensures { result ≡ no_keys }
     {
         KeyQueue {
             keys: VecDeque::new(alloc),
@@ -31,9 +41,12 @@ impl KeyQueue {
     }
 
     /// Takes the memory for a key, and for those below it. The keys that stand in the queue stay.
+    /// A key that is admitted needs none. `AllocError` leaves the queue as it was.
     pub fn admit(&mut self, key: usize) -> Result<(), AllocError>
-        ensures room { OnOk result (Admits self.new key) }
-        ensures kept { keys_of self.new ≡ keys_of self.old }
+        ensures ok { OnOk result (self.new ≡ admitting key self.old) }
+        ensures err { OnErr result (self.new ≡ self.old) }
+        ensures kept { self.new.keys ≡ self.old.keys }
+        ensures admitted { Admits key self.old → IsOk result }
     {
         let count = key.saturating_add(1);
         if count <= self.queued.len() {
@@ -46,10 +59,7 @@ impl KeyQueue {
     /// Puts a key behind the others, unless it stands in the queue. A key that was not admitted is
     /// ignored. Allocates nothing.
     pub fn push(&mut self, key: usize)
-        ensures queued { Admits self.old key → IsQueued self.new key }
-        ensures once { IsQueued self.old key → keys_of self.new ≡ keys_of self.old }
-        ensures behind { (keys_of self.new ≡ keys_of self.old)
-            ⊎ (keys_of self.new ≡ keys_of self.old ++ key ∷ []) }
+        ensures { self.new ≡ queued key self.old }
     {
         if key >= self.queued.len() {
             return;
@@ -61,9 +71,10 @@ impl KeyQueue {
         self.queued[key] = true;
     }
 
-    /// Takes the first key out. Allocates nothing.
+    /// Takes the first key out, if there is one. Allocates nothing.
     pub fn pop(&mut self) -> Option<usize>
-        ensures { keys_of self.old ≡ option_to_list result ++ keys_of self.new }
+        ensures first { result ≡ first self.old }
+        ensures rest { self.new ≡ without_first self.old }
     {
         let key = self.keys.pop_front()?;
         if key < self.queued.len() {
@@ -72,18 +83,26 @@ impl KeyQueue {
         Some(key)
     }
 
+    /// How many keys stand in the queue. As many turns serve each of them once, in their order,
+    /// also if each that was served is queued again at once.
     pub fn len(&self) -> usize
-        ensures { result ≡ length (keys_of self.now) }
+        ensures kept { IsQueue self.now }
+        ensures count { result ≡ length self.now.keys }
+        ensures once_before_twice { served result self.now ≡ self.now.keys }
     {
         self.keys.len()
     }
 
-    pub fn is_empty(&self) -> bool {
+    pub fn is_empty(&self) -> bool
+        ensures { result ≡ is_empty self.now }
+    {
         self.keys.is_empty()
     }
 
     /// Whether a key stands in the queue.
-    pub fn contains(&self, key: usize) -> bool {
+    pub fn contains(&self, key: usize) -> bool
+        ensures { result ≡ waits key self.now }
+    {
         self.queued.get(key).copied().unwrap_or(false)
     }
 }

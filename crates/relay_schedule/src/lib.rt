@@ -9,8 +9,9 @@
 //! [`OutputTotal`]).
 //!
 //! The promise: a credit never exceeds a round's; a queue serves each that waits once before it
-//! serves any twice (`proofs/Serving`); and a round begins no turn once it has cost its bound, so
-//! all its turns but the last cost less together. What one link holds of output is counted anew
+//! serves any twice (`once_before_twice` of [`KeyQueue::len`]); a round of credit ends once each
+//! that owed when it began has had its turn; and of the turns that begin before a round has cost
+//! its bound, all but the last cost less together. What one link holds of output is counted anew
 //! without what the others hold.
 #![tactic(auto)]
 

@@ -39,7 +39,14 @@ pub struct Queues {
 }
 
 impl Queues {
-    pub fn new(alloc: Global) -> Queues {
+    ghost use Rattle.std.specs.Prelude.{◌≡◌, IsOk, OnOk, OnErr, length};
+    ghost use Rattle.relay_schedule.specs.Queue.{first};
+    ghost use Rattle.relay_schedule.specs.Queues.{AllAdmit, EachMayAdmit, no_queues, all_admitting, queued_for, with_writer, writers, without_writer, held_back, closing, with_held_back, without_held_back, without_closing, none_waits, waits_for};
+
+    /// Queues without keys, which admit none.
+    pub fn new(alloc: Global) -> Queues
+        ensures { result ≡ no_queues }
+    {
         Queues {
             ready: ReadyQueue::new(alloc),
             corked: KeyQueue::new(alloc),
@@ -49,8 +56,13 @@ impl Queues {
         }
     }
 
-    /// Takes the memory for a key in each queue. `AllocError` leaves the keys that are queued.
-    pub fn admit(&mut self, key: usize) -> Result<(), AllocError> {
+    /// Takes the memory for a key in each queue, and for those below it. A key that is admitted
+    /// needs none. `AllocError` leaves the keys that are queued.
+    pub fn admit(&mut self, key: usize) -> Result<(), AllocError>
+        ensures ok { OnOk result (self.new ≡ all_admitting key self.old) }
+        ensures err { OnErr result (EachMayAdmit key self.old self.new) }
+        ensures admitted { AllAdmit key self.old → IsOk result }
+    {
         self.ready.admit(key)?;
         self.corked.admit(key)?;
         self.waiting.admit(key)?;
@@ -60,7 +72,9 @@ impl Queues {
 
     /// Queues a key behind the others for each turn that its connection wants. Whoever owes is
     /// written to among all others, also for corked output. Allocates nothing.
-    pub fn push(&mut self, key: usize, wants: Wants, credit: Credit) {
+    pub fn push(&mut self, key: usize, wants: Wants, credit: Credit)
+        ensures { self.new ≡ queued_for key wants credit self.old }
+    {
         if wants.read {
             self.ready.push(key, credit);
         }
@@ -76,12 +90,17 @@ impl Queues {
     }
 
     /// Queues a key for a write turn, for messages that wait. Allocates nothing.
-    pub fn push_writer(&mut self, key: usize) {
+    pub fn push_writer(&mut self, key: usize)
+        ensures { self.new ≡ with_writer key self.old }
+    {
         self.waiting.push(key);
     }
 
     /// Takes out the first key of the connections that may be written to, for such output.
-    pub fn pop_writer(&mut self, output: Output) -> Option<usize> {
+    pub fn pop_writer(&mut self, output: Output) -> Option<usize>
+        ensures first { result ≡ first (writers output self.old) }
+        ensures rest { self.new ≡ without_writer output self.old }
+    {
         match output {
             Output::Corked => self.corked.pop(),
             Output::Waiting => self.waiting.pop(),
@@ -89,32 +108,46 @@ impl Queues {
     }
 
     /// Puts a key aside whose messages have to wait. Allocates nothing.
-    pub fn hold_back(&mut self, key: usize) {
+    pub fn hold_back(&mut self, key: usize)
+        ensures { self.new ≡ with_held_back key self.old }
+    {
         self.held_back.push(key);
     }
 
     /// Takes out the first key that was put aside.
-    pub fn pop_held_back(&mut self) -> Option<usize> {
+    pub fn pop_held_back(&mut self) -> Option<usize>
+        ensures first { result ≡ first (held_back self.old) }
+        ensures rest { self.new ≡ without_held_back self.old }
+    {
         self.held_back.pop()
     }
 
     /// How many keys were put aside.
-    pub fn held_back(&self) -> usize {
+    pub fn held_back(&self) -> usize
+        ensures { result ≡ length (held_back self.now).keys }
+    {
         self.held_back.len()
     }
 
     /// Takes out the first key of the connections that are closing.
-    pub fn pop_closing(&mut self) -> Option<usize> {
+    pub fn pop_closing(&mut self) -> Option<usize>
+        ensures first { result ≡ first (closing self.old) }
+        ensures rest { self.new ≡ without_closing self.old }
+    {
         self.closing.pop()
     }
 
     /// How many keys there are of connections that are closing.
-    pub fn closing(&self) -> usize {
+    pub fn closing(&self) -> usize
+        ensures { result ≡ length (closing self.now).keys }
+    {
         self.closing.len()
     }
 
     /// How many keys wait for a write turn.
-    pub fn writers(&self, output: Output) -> usize {
+    pub fn writers(&self, output: Output) -> usize
+        ensures { result ≡ length (writers output self.now).keys }
+    {
         match output {
             Output::Corked => self.corked.len(),
             Output::Waiting => self.waiting.len(),
@@ -122,12 +155,16 @@ impl Queues {
     }
 
     /// Whether no key waits for a turn, but for those that are held back or closing.
-    pub fn is_empty(&self) -> bool {
+    pub fn is_empty(&self) -> bool
+        ensures { result ≡ none_waits self.now }
+    {
         self.ready.is_empty() && self.corked.is_empty() && self.waiting.is_empty()
     }
 
     /// Whether a key waits for each turn that its connection wants.
-    pub fn has(&self, key: usize, wants: Wants) -> bool {
+    pub fn has(&self, key: usize, wants: Wants) -> bool
+        ensures { result ≡ waits_for key wants self.now }
+    {
         (!wants.read || self.ready.contains(key))
             && (!wants.corked || self.corked.contains(key) || self.waiting.contains(key))
             && (!wants.waiting || self.waiting.contains(key) || self.held_back.contains(key))

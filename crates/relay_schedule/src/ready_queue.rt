@@ -1,14 +1,12 @@
 //! The connections that may be read, in the order of their turns.
-ghost use Rattle.std.specs.Prelude.{◌≡◌, option_to_list, ◌++◌};
-ghost use Rattle.relay_schedule.specs.Queue.{keys_of};
-
 use crate::credit::Credit;
 use crate::key_queue::KeyQueue;
 use std::alloc::{AllocError, Global};
+use std::marker::Model;
 
 /// Two lines of keys: those with credit, whose turns come first, and those who owe, of whom one has
 /// a turn in each round of the server. Each key stands in one of them at most. A round of credit
-/// ends once each that owed when it began has had its turn.
+/// ends once each that owed when it began has had its turn. Contracts see it as `Lines`.
 #[derive(Drop)]
 pub struct ReadyQueue {
     credited: KeyQueue,
@@ -18,9 +16,29 @@ pub struct ReadyQueue {
     left: usize,
 }
 
+impl Model for ReadyQueue {
+    ghost use Rattle.relay_schedule.specs.Ready.{Lines, lines_code};
+
+    ghost Value = { Lines };
+
+    ghost coded = { lines_code };
+
+    ghost use Rattle.relay_schedule.specs.Representation.{lines_of, AreKept};
+
+    ghost view = { lines_of };
+
+    ghost invariant = { AreKept };
+}
+
 impl ReadyQueue {
+    ghost use Rattle.std.specs.Prelude.{◌≡◌, ◌++◌, IsOk, OnOk, OnErr, length, option_to_list};
+    ghost use Rattle.relay_schedule.specs.Queue.{first};
+    ghost use Rattle.relay_schedule.specs.Ready.{AreLines, BothAdmit, LinesMayAdmit, no_lines, are_empty, stands, both_admitting, lined_up, without_credited, in_round, without_owing, unserved};
+
     /// A queue without keys, which admits none.
-    pub fn new(alloc: Global) -> ReadyQueue {
+    pub fn new(alloc: Global) -> ReadyQueue
+        ensures { result ≡ no_lines }
+    {
         ReadyQueue {
             credited: KeyQueue::new(alloc),
             owing: KeyQueue::new(alloc),
@@ -29,17 +47,21 @@ impl ReadyQueue {
         }
     }
 
-    /// Takes the memory for a key. `AllocError` leaves the keys that are queued.
+    /// Takes the memory for a key, and for those below it. A key that is admitted needs none.
+    /// `AllocError` leaves the keys that are queued.
     pub fn admit(&mut self, key: usize) -> Result<(), AllocError>
-        ensures credited { keys_of self.new.credited ≡ keys_of self.old.credited }
-        ensures owing { keys_of self.new.owing ≡ keys_of self.old.owing }
+        ensures ok { OnOk result (self.new ≡ both_admitting key self.old) }
+        ensures err { OnErr result (LinesMayAdmit key self.old self.new) }
+        ensures admitted { BothAdmit key self.old → IsOk result }
     {
         self.credited.admit(key)?;
         self.owing.admit(key)
     }
 
     /// The round of credit.
-    pub fn round(&self) -> u64 {
+    pub fn round(&self) -> u64
+        ensures { result ≡ self.now.round }
+    {
         self.round
     }
 
@@ -54,7 +76,10 @@ impl ReadyQueue {
     /// assert!(rt; ready.pop_credited() == Some(1) && ready.pop_credited() == None);
     /// assert!(rt; ready.pop_owing() == Some(0));
     /// ```
-    pub fn push(&mut self, key: usize, credit: Credit) {
+    pub fn push(&mut self, key: usize, credit: Credit)
+        ensures lined_up { self.new ≡ lined_up key credit self.old }
+        ensures in_turn { unserved self.new ≡ unserved self.old }
+    {
         if self.contains(key) {
             return;
         }
@@ -67,9 +92,8 @@ impl ReadyQueue {
 
     /// Takes the first key out of those with credit. Allocates nothing.
     pub fn pop_credited(&mut self) -> Option<usize>
-        ensures credited { keys_of self.old.credited ≡ option_to_list result
-            ++ keys_of self.new.credited }
-        ensures owing { keys_of self.new.owing ≡ keys_of self.old.owing }
+        ensures first { result ≡ first self.old.credited }
+        ensures rest { self.new ≡ without_credited self.old }
     {
         self.credited.pop()
     }
@@ -77,33 +101,53 @@ impl ReadyQueue {
     /// Takes the first key out of those who owe. If each of them has had a turn, the next round of
     /// credit begins; so it does if there is none. Allocates nothing.
     pub fn pop_owing(&mut self) -> Option<usize>
-        ensures owing { keys_of self.old.owing ≡ option_to_list result ++ keys_of self.new.owing }
-        ensures credited { keys_of self.new.credited ≡ keys_of self.old.credited }
+        ensures first { result ≡ first self.old.owing }
+        ensures rest { self.new ≡ without_owing self.old }
+        ensures in_turn { unserved (in_round self.old)
+            ≡ option_to_list result ++ unserved self.new }
+    {
+        self.begin_round();
+        self.left = self.left.saturating_sub(1);
+        self.owing.pop()
+    }
+
+    /// Begins the next round of credit, if each of those who owe has had a turn in this one.
+    fn begin_round(&mut self)
+        ensures kept { AreLines self.new }
+        ensures round { self.new ≡ in_round self.old }
     {
         if self.left == 0 {
             self.round = self.round.saturating_add(1);
             self.left = self.owing.len();
         }
-        self.left = self.left.saturating_sub(1);
-        self.owing.pop()
     }
 
     /// How many have credit.
-    pub fn credited(&self) -> usize {
+    pub fn credited(&self) -> usize
+        ensures kept { AreLines self.now }
+        ensures count { result ≡ length self.now.credited.keys }
+    {
         self.credited.len()
     }
 
     /// How many owe.
-    pub fn owing(&self) -> usize {
+    pub fn owing(&self) -> usize
+        ensures kept { AreLines self.now }
+        ensures count { result ≡ length self.now.owing.keys }
+    {
         self.owing.len()
     }
 
-    pub fn is_empty(&self) -> bool {
+    pub fn is_empty(&self) -> bool
+        ensures { result ≡ are_empty self.now }
+    {
         self.credited.is_empty() && self.owing.is_empty()
     }
 
     /// Whether a key stands in one of the lines.
-    pub fn contains(&self, key: usize) -> bool {
+    pub fn contains(&self, key: usize) -> bool
+        ensures { result ≡ stands key self.now }
+    {
         self.credited.contains(key) || self.owing.contains(key)
     }
 }

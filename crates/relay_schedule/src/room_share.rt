@@ -1,8 +1,6 @@
 //! How far a room may be read ahead.
-ghost use Rattle.std.specs.Prelude.{◌≡◌, ◌≤◌, ◌+◌, ◌-◌, ◌^◌, min, ℕ};
-ghost use Rattle.relay_schedule.specs.Share.{may_read_ahead};
-
 use std::alloc::{AllocError, Global};
+use std::marker::Model;
 
 /// What a room was said since its watchers were last written to, and how many of them wait for
 /// that.
@@ -22,6 +20,9 @@ pub struct ShareLimits {
 }
 
 impl RoomShare {
+    ghost use Rattle.std.specs.Prelude.{◌≡◌};
+    ghost use Rattle.relay_schedule.specs.Share.{may_read_ahead, with_text, with_writer, without_writer};
+
     const NONE: RoomShare = RoomShare {
         texts: 0,
         bytes: 0,
@@ -37,7 +38,7 @@ impl RoomShare {
 
     /// Adds a text of so many bytes. If nobody waits to be written to, it is the first.
     pub fn add_text(&mut self, bytes: u64)
-        ensures { self.new.writers ≡ self.old.writers }
+        ensures { self.new ≡ with_text bytes self.old }
     {
         if self.writers == 0 {
             *self = RoomShare::NONE;
@@ -48,29 +49,48 @@ impl RoomShare {
 
     /// Adds one that waits to be written to.
     pub fn add_writer(&mut self)
-        ensures { self.new.writers ≡ min (2 ^ 64 - 1) (self.old.writers + 1) }
+        ensures { self.new ≡ with_writer self.old }
     {
         self.writers = self.writers.saturating_add(1);
     }
 
     /// Takes out one that was written to, or is gone.
     pub fn take_writer(&mut self)
-        ensures { self.new.writers ≡ self.old.writers - 1 }
+        ensures { self.new ≡ without_writer self.old }
     {
         self.writers = self.writers.saturating_sub(1);
     }
 }
 
-/// The share of each room, by the room's index in the hub.
+/// The share of each room, by the room's index in the hub. Contracts see it as `Shares`.
 #[derive(Drop)]
 pub struct RoomShares {
     shares: Vec<RoomShare>,
     limits: ShareLimits,
 }
 
+impl Model for RoomShares {
+    ghost use Rattle.relay_schedule.specs.contracts.room_share.RoomShare as share;
+    ghost use Rattle.relay_schedule.specs.contracts.room_share.ShareLimits as share_limits;
+    ghost use Rattle.relay_schedule.specs.Share.{Shares, shares_code};
+
+    ghost Value = { Shares };
+
+    ghost coded = { shares_code share.the_row.coded share_limits.the_row.coded };
+
+    ghost use Rattle.relay_schedule.specs.Representation.{shares_of};
+
+    ghost view = { shares_of };
+}
+
 impl RoomShares {
+    ghost use Rattle.std.specs.Prelude.{◌≡◌, ◌<◌, length, IsOk, OnOk, OnErr};
+    ghost use Rattle.relay_schedule.specs.Share.{may_read_ahead, with_text, with_writer, without_writer, no_rooms, admitting, share_of, in_room};
+
     /// No room yet.
-    pub fn new(alloc: Global, limits: ShareLimits) -> RoomShares {
+    pub fn new(alloc: Global, limits: ShareLimits) -> RoomShares
+        ensures { result ≡ no_rooms limits }
+    {
         RoomShares {
             shares: Vec::new(alloc),
             limits,
@@ -78,8 +98,12 @@ impl RoomShares {
     }
 
     /// Takes the memory for a room, and for those of lower indexes. Without it the room is read as
-    /// far as it is said something.
-    pub fn admit(&mut self, index: usize) -> Result<(), AllocError> {
+    /// far as it is said something. `AllocError` leaves the others as they were.
+    pub fn admit(&mut self, index: usize) -> Result<(), AllocError>
+        ensures ok { OnOk result (self.new ≡ admitting index self.old) }
+        ensures err { OnErr result (self.new ≡ self.old) }
+        ensures admitted { index < length self.old.rooms → IsOk result }
+    {
         let count = index.saturating_add(1);
         if count <= self.shares.len() {
             return Ok(());
@@ -88,7 +112,9 @@ impl RoomShares {
     }
 
     /// Whether a room may be read ahead ([`RoomShare::may_read_ahead`]).
-    pub fn may_read_ahead(&self, index: usize) -> bool {
+    pub fn may_read_ahead(&self, index: usize) -> bool
+        ensures { result ≡ may_read_ahead self.now.limits (share_of index self.now) }
+    {
         match self.shares.get(index) {
             Some(share) => share.may_read_ahead(self.limits),
             None => true,
@@ -96,21 +122,27 @@ impl RoomShares {
     }
 
     /// Notes that a room was said a text of so many bytes.
-    pub fn add_text(&mut self, index: usize, bytes: u64) {
+    pub fn add_text(&mut self, index: usize, bytes: u64)
+        ensures { self.new ≡ in_room index (with_text bytes) self.old }
+    {
         if let Some(share) = self.shares.get_mut(index) {
             share.add_text(bytes);
         }
     }
 
     /// Notes that a connection of a room waits to be written to.
-    pub fn add_writer(&mut self, index: usize) {
+    pub fn add_writer(&mut self, index: usize)
+        ensures { self.new ≡ in_room index with_writer self.old }
+    {
         if let Some(share) = self.shares.get_mut(index) {
             share.add_writer();
         }
     }
 
     /// Notes that one of these was written to, or is gone.
-    pub fn take_writer(&mut self, index: usize) {
+    pub fn take_writer(&mut self, index: usize)
+        ensures { self.new ≡ in_room index without_writer self.old }
+    {
         if let Some(share) = self.shares.get_mut(index) {
             share.take_writer();
         }

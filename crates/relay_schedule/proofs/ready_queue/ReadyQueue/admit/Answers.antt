@@ -1,0 +1,9 @@
+-- A line that admits a key keeps those that stand in it.
+use Rattle.relay_schedule.specs.Representation.{lines_of}
+use Rattle.relay_schedule.proofs.Lines.{lines_with_same}
+use Rattle.relay_schedule.proofs.ready_queue.ReadyQueue.admit.Goals as goal
+
+pub invariant_of-self-2 : goal.invariant_of-self-2
+invariant_of-self-2 c =
+    lines_with_same (lines_of c.self.inside) c.admit.new.self c.admit-2.new.self c.self.invariant
+    c.admit.ensures.kept c.admit-2.ensures.kept

@@ -1,0 +1,43 @@
+-- The fields of queues and of rooms' shares as contracts see them.
+use Rattle.std.specs.Prelude.{◌≡◌, ℕ, ◌≤◌, Bool, false, List, length, slice_index_or, if◌then◌else◌}
+use Rattle.std.specs.List.{count_by}
+use Rattle.std.specs.VecDeque.{deque_len, deque_capacity}
+use Rattle.relay_schedule.specs.Queue.{Keys, times}
+use Rattle.relay_schedule.specs.Ready.{Lines, AreLines}
+use Rattle.relay_schedule.specs.Share.{Shares}
+use Rattle.relay_schedule.specs.declared.key_queue.KeyQueue.TheInside as key_queue
+use Rattle.relay_schedule.specs.declared.ready_queue.ReadyQueue.TheInside as ready_queue
+use Rattle.relay_schedule.specs.declared.room_share.RoomShares.TheInside as room_shares
+
+-- the queue that contracts see
+abbrev pub keys_of : key_queue.Inside → Keys
+keys_of queue = record { keys = queue.keys.items; admitted = length queue.queued.items }
+
+-- a key stands in the list once if its flag is set, and else not at all
+abbrev pub Flagged : List Bool → List ℕ → Type 0
+Flagged flags keys =
+    (key : ℕ) → times key keys ≡ (if slice_index_or flags key false then 1 else 0)
+
+-- the invariant of the fields: each key that waits is flagged, and no other; and there is memory
+-- for each key that has a flag
+pub record IsKept (queue : key_queue.Inside) : Type 0 where
+  pub flagged : Flagged queue.queued.items queue.keys.items
+  pub fits : deque_len queue.keys ≤ count_by (λ b. b) queue.queued.items
+  pub room : length queue.queued.items ≤ deque_capacity queue.keys
+
+-- the lines that contracts see
+abbrev pub lines_of : ready_queue.Inside → Lines
+lines_of queue = record {
+  credited = queue.credited;
+  owing = queue.owing;
+  round = queue.round;
+  left = queue.left;
+}
+
+-- the invariant of the fields
+abbrev pub AreKept : ready_queue.Inside → Type 0
+AreKept queue = AreLines (lines_of queue)
+
+-- the shares that contracts see
+abbrev pub shares_of : room_shares.Inside → Shares
+shares_of shares = record { rooms = shares.shares.items; limits = shares.limits }
