@@ -16,7 +16,7 @@ use Rattle.relay_hub.specs.declared.event.Event.TheVariants.{Open, Receive, Draw
 use Rattle.relay_hub.specs.declared.event.Heard.TheVariants.{Answered, Busy}
 use Rattle.relay_hub.proofs.Stands.{step_stands}
 use Rattle.relay_hub.proofs.Watchers.{exactly_held}
-use Rattle.relay_link.specs.Follows.{Point, no_room, Follows, stays, makes, with_events, drawn, drawn_by}
+use Rattle.relay_link.specs.Follows.{Point, no_opening, Follows, stays, makes, with_events, drawn, drawn_by}
 use Rattle.relay_proto.specs.Client.{Client, nothing, holds, lost, client, client_after}
 use Rattle.relay_proto.specs.Request.{request_of_text}
 use Rattle.relay_proto.specs.declared.refusal.Refusal.{Refusal}
@@ -195,7 +195,7 @@ module _ (b : HubConfig) (E : Log) (hub new : State) (s : ℕ) (c : Client)
 -- ---- the events of a turn
 
 -- a link that opens no room has its session or none
-own_session : {p q : Point} (s : ℕ) → Follows no_room p q → p.session ≡ Some s
+own_session : {p q : Point} (s : ℕ) → Follows no_opening p q → p.session ≡ Some s
     → (q.session ≡ Some s) ⊎ (q.session ≡ None)
 own_session s stays is = inl is
 own_session s (makes (Open room access) answer before own step) is = absurd own.1
@@ -214,7 +214,7 @@ its_own q s t held is =
 
 -- the link still has its session after the events
 pub stays_turn : (b : HubConfig) (E : Log) (s t : ℕ) (c : Client) {p q : Point}
-    (follows : Follows no_room p q) → p.session ≡ Some s → q.session ≡ Some t
+    (follows : Follows no_opening p q) → p.session ≡ Some s → q.session ≡ Some t
     → Resumes b E s c follows
     → KeepsUp b E p.hub s c → c ≢ lost → Stays b (with_events follows E) q.hub s c (drawn follows)
 stays_turn b E s t c stays is still resumes before found =

@@ -8,7 +8,7 @@ use Rattle.relay_hub.specs.declared.config.HubConfig.{HubConfig}
 use Rattle.relay_hub.specs.declared.event.Event.{Event}
 use Rattle.relay_hub.specs.declared.event.Event.TheVariants.{Open as OpenEvent, Receive, Draw, Close, DoWill, Forget}
 use Rattle.relay_link.specs.Adds.{is_receive, receives}
-use Rattle.relay_link.specs.Follows.{Point, at, no_room, Follows, stays, makes, drawn}
+use Rattle.relay_link.specs.Follows.{Point, at, no_opening, Follows, stays, makes, drawn}
 use Rattle.relay_link.specs.Frames.{framed, text_frames}
 use Rattle.relay_link.specs.Tells.{Told, WhileOpen}
 use Rattle.relay_link.specs.Turns.{Turns}
@@ -37,7 +37,7 @@ one_more : (events : List Event) (event : Event)
 one_more events event = sum_by-append (λ e. cond (is_receive e) 1 0) events (event ∷ [])
 
 nobody_resumes : (b : HubConfig) (E : Log) (s : ℕ) (c : Client) {p q : Point}
-    (follows : Follows no_room p q) → receives q.events ≡ 0 → Resumes b E s c follows
+    (follows : Follows no_opening p q) → receives q.events ≡ 0 → Resumes b E s c follows
 nobody_resumes b E s c stays none = tt
 nobody_resumes b E s c (makes (OpenEvent room access) answer follows own step) none = absurd own.1
 nobody_resumes b E s c (makes {q = q} (Receive t text) answer follows own step) none =
@@ -65,9 +65,9 @@ module _ {S : Type 0} (remaining contents : S → Option (List ℕ)) where
         turn = record {
           after = t;
           follows = told.follows;
-          utf8 = told.utf8;
+          utf8 = told.framed.utf8;
           frames_are = appended (framed contents old) (framed contents new) before frames
-              (text_frames (drawn told.follows)) told.frames was is;
+              (text_frames (drawn told.follows)) told.framed.frames was is;
         };
         resumes = λ b E c. nobody_resumes b E s c told.follows none;
       }

@@ -9,7 +9,7 @@ use Rattle.relay_hub.specs.State.{State, RoomSessions, home_of, session_in}
 use Rattle.relay_hub.specs.declared.config.HubConfig.{HubConfig}
 use Rattle.relay_hub.specs.declared.event.Event.{Event}
 use Rattle.relay_hub.specs.declared.event.Event.TheVariants.{Receive, Draw}
-use Rattle.relay_link.specs.Follows.{Point, at, no_room, Follows, stays, makes, with_events, drawn}
+use Rattle.relay_link.specs.Follows.{Point, at, no_opening, Follows, stays, makes, with_events, drawn}
 use Rattle.relay_link.specs.Frames.{text_frames}
 use Rattle.relay_proto.specs.Client.{Client, nothing, holds, client_after}
 use Rattle.relay_proto.specs.Request.{request_of_text}
@@ -22,7 +22,7 @@ use Rattle.relay_view.specs.View.{View, view}
 pub record FramedTurn (s : ℕ) (hub next : State) (events : List Event)
     (frames : List ℕ) : Type 0 where
   pub after : ℕ
-  pub follows : Follows no_room (at hub (Some s) []) (at next (Some after) events)
+  pub follows : Follows no_opening (at hub (Some s) []) (at next (Some after) events)
   pub utf8 : AllByRecursion IsUtf8 (drawn follows)
   pub frames_are : frames ≡ text_frames (drawn follows)
 
@@ -48,7 +48,7 @@ StartsAsHeld b E s c (Receive t text) =
 StartsAsHeld b E s c _ = ⊤
 
 -- the same of all events of a turn, each time of what the client holds by then
-abbrev pub Resumes : HubConfig → Log → ℕ → Client → {p q : Point} → Follows no_room p q → Type 0
+abbrev pub Resumes : HubConfig → Log → ℕ → Client → {p q : Point} → Follows no_opening p q → Type 0
 Resumes b E s c stays = ⊤
 Resumes b E s c (makes event answer before own step) = Resumes b E s c before
     × ((m : Client) → told_all c (drawn before) ≡ Some m

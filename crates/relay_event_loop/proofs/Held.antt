@@ -13,7 +13,7 @@ use Rattle.relay_hub.specs.declared.event.Event.{Event}
 use Rattle.relay_hub.specs.declared.event.Event.TheVariants.{DoWill, Forget}
 use Rattle.relay_hub.specs.declared.fault.ForgetFault.{ForgetFault}
 use Rattle.relay_link.specs.Asks.{asked_by, IsFresh, Receives}
-use Rattle.relay_link.specs.Follows.{Follows, at, no_room, closing_of}
+use Rattle.relay_link.specs.Follows.{Follows, at, no_opening, closing_of}
 use Rattle.relay_link.specs.Hears.{PassesTexts}
 use Rattle.relay_link.specs.Replies.{Replies}
 use Rattle.relay_link.proofs.Following.{follows_none}
@@ -131,7 +131,7 @@ module _ {S : Type 0} (held : Slab (Connection S)) (key : ℕ) (was is : Connect
 
     -- Its link ended.
     pub ended : (hub next : State) (events : List Event)
-        → Follows no_room (at hub (session_of was.link) []) (at next (session_of is.link) events)
+        → Follows no_opening (at hub (session_of was.link) []) (at next (session_of is.link) events)
         → events ≡ closing_of (session_of was.link) → stage_of is.link ≡ stage.Gone
         → Advances remaining contents hub (links_of held) next (links_of (with_value held key is))
     ended hub next events follows closes gone =

@@ -9,7 +9,7 @@ use Rattle.relay_proto.specs.declared.access.Access.{Access}
 use Rattle.relay_link.specs.Asks.{asked_by}
 use Rattle.relay_link.specs.Stage.{session_of}
 use Rattle.relay_link.specs.declared.state.State.{State}
-use Rattle.relay_link.specs.Follows.{Point, Rooms, at, IsOwn, no_room, session_after, Follows, stays, makes, drawn_by, drawn}
+use Rattle.relay_link.specs.Follows.{Point, Rooms, at, IsOwn, no_opening, session_after, Follows, stays, makes, drawn_by, drawn}
 use Rattle.relay_link.specs.Visits.{opened_by, openings}
 
 module _ {rooms : Rooms} where
@@ -54,7 +54,7 @@ follows_wider more stays = stays
 follows_wider more (makes {q = q} event answer before own step) =
     makes event answer (follows_wider more before) (wider_own more q.session event own) step
 
-pub follows_none : {rooms : Rooms} {p q : Point} → Follows no_room p q → Follows rooms p q
+pub follows_none : {rooms : Rooms} {p q : Point} → Follows no_opening p q → Follows rooms p q
 follows_none = follows_wider (λ room access none. absurd none)
 
 -- the same of an equal state
@@ -73,16 +73,16 @@ follows_as {rooms = rooms} {hub = hub} {events = events} {q = q} old state same 
     subst (λ s. Follows rooms (at hub (session_of s) events) q) same follows
 
 -- an event of a link that may open no session opens none
-no_opening : (session : Option ℕ) (event : Event) (answer : Answer) → IsOwn no_room session event
+opens_none : (session : Option ℕ) (event : Event) (answer : Answer) → IsOwn no_opening session event
     → opened_by event answer ≡ []
-no_opening session (Open room access) answer own = absurd own.1
-no_opening session (Receive s text) answer own = refl
-no_opening session (Draw s) answer own = refl
-no_opening session (Close s) answer own = refl
-no_opening session event answer own = absurd own
+opens_none session (Open room access) answer own = absurd own.1
+opens_none session (Receive s text) answer own = refl
+opens_none session (Draw s) answer own = refl
+opens_none session (Close s) answer own = refl
+opens_none session event answer own = absurd own
 
 -- one run of events after another, of which the second opens no session
-pub went_on : {rooms : Rooms} {p q r : Point} (f : Follows rooms p q) (g : Follows no_room q r)
+pub went_on : {rooms : Rooms} {p q r : Point} (f : Follows rooms p q) (g : Follows no_opening q r)
     → (h : Follows rooms p r) × (drawn h ≡ drawn f ++ drawn g) × (openings h ≡ openings f)
 went_on f stays = (f, sym (append-nil (drawn f)), refl)
 went_on f (makes {q = q} event answer before own step) =
@@ -91,6 +91,6 @@ went_on f (makes {q = q} event answer before own step) =
           (wider_own (λ room access none. absurd none) q.session event own) step,
       ap (λ l. l ++ drawn_by event answer) most.1
           ∙ append_assoc (drawn f) (drawn before) (drawn_by event answer),
-      ap (λ l. openings most.0 ++ l) (no_opening q.session event answer own)
+      ap (λ l. openings most.0 ++ l) (opens_none q.session event answer own)
           ∙ append-nil (openings most.0) ∙ most.2,
     )

@@ -45,21 +45,17 @@ module _ {S : Type 0} (remaining contents : S → Option (List ℕ)) (hub next :
     sends = record {
       entrance = entrance;
       replies = replies;
-      frames = writes
-          (record { utf8 = told.utf8; frames = told.frames; reads_on = told.reads_on });
+      frames = writes told.framed;
     };
   }
-  sending_by (Open old s) (Open new t) entrance follows (inr answered) replies =
-      let told = answered.told in record {
-        follows = told.follows;
-        sends = record {
-          entrance = entrance;
-          replies = replies;
-          frames = reads answered.ready answered.heard answered.texts answered.sent
-              answered.reads_on answered.passes answered.hears
-              (record { utf8 = told.utf8; frames = told.frames; reads_on = told.reads_on });
-        };
-      }
+  sending_by (Open old s) (Open new t) entrance follows (inr answered) replies = record {
+    follows = answered.told.follows;
+    sends = record {
+      entrance = entrance;
+      replies = replies;
+      frames = reads answered.heard answered.reads answered.told.framed;
+    };
+  }
   sending_by (Open old s) (Head stream bytes) entrance follows framed replies =
       record { follows = follows; sends = unframed entrance replies (drawn follows) tt }
   sending_by (Open old s) (Replying stream reply) entrance follows framed replies =

@@ -10,7 +10,7 @@ use Rattle.relay_hub.specs.State.{State as Hub}
 use Rattle.relay_hub.specs.Step.{Step}
 use Rattle.relay_hub.specs.declared.event.Answer.{Answer}
 use Rattle.relay_hub.specs.declared.event.Event.{Event}
-use Rattle.relay_link.specs.Follows.{Point, at, IsOwn, no_room, session_after, Follows, stays, makes, given, drawn_by, drawn}
+use Rattle.relay_link.specs.Follows.{Point, at, IsOwn, no_opening, session_after, Follows, stays, makes, given, drawn_by, drawn}
 use Rattle.relay_link.specs.Frames.{text_frame, text_frames, framed, Frames}
 use Rattle.relay_link.specs.Stage.{stage_of, is_over, IsForward}
 use Rattle.relay_link.specs.Hears.{allowed_reads, Passes, Hears, SendsAndPassesOn, GoesOn, ReadsTexts}
@@ -42,7 +42,7 @@ given_utf8 (Some text) = (IsUtf8-string_bytes text, tt)
 -- one event was made
 pub drew_one : (old new : Hub) (session : Option ℕ) (before after : List Event) (event : Event)
     (answer : Answer)
-    → after ≡ before ++ event ∷ [] → IsOwn no_room session event → Step old event answer new
+    → after ≡ before ++ event ∷ [] → IsOwn no_opening session event → Step old event answer new
     → AllByRecursion IsUtf8 (drawn_by event answer)
     → Drew (drawn_by event answer) (at old session before)
     (at new (session_after session event answer) after)
@@ -145,9 +145,11 @@ module _ {S : Type 0} {contents : S → Option (List ℕ)} where
       → a.conn.role ≡ Server → Told contents p q a b
   told tells server = record {
     follows = tells.follows;
-    utf8 = tells.utf8;
-    frames = tells.frames.bytes server;
-    reads_on = tells.frames.reads_on;
+    framed = record {
+      utf8 = tells.utf8;
+      frames = tells.frames.bytes server;
+      reads_on = tells.frames.reads_on;
+    };
   }
 
 over_goes : {S : Type 0} (a : Socket (CorkedWriter S)) (state : State S)
@@ -305,13 +307,15 @@ module _ {S : Type 0} (remaining contents : S → Option (List ℕ)) where
   answered : (p q : Point) (a b : Socket (CorkedWriter S)) → Talks remaining contents 1 p q a b
       → a.conn.role ≡ Server → Answered remaining contents p q a b
   answered p q a b talks server = record {
-    ready = talks.ready;
-    sent = talks.sent.bytes server;
-    reads_on = talks.sent.reads_on;
-    texts = talks.exchanges.hearing.texts;
-    passes = talks.exchanges.hearing.passes;
     heard = talks.exchanges.heard;
-    hears = talks.exchanges.hearing.hears;
+    reads = record {
+      ready = talks.ready;
+      sent = talks.sent.bytes server;
+      reads_on = talks.sent.reads_on;
+      texts = talks.exchanges.hearing.texts;
+      passes = talks.exchanges.hearing.passes;
+      hears = talks.exchanges.hearing.hears;
+    };
     told = told talks.exchanges.tells
         (talks.exchanges.hearing.terms.role ∙ (terms_kept talks.sent.reads_on).role ∙ server);
   }

@@ -5,7 +5,7 @@ use Rattle.relay_shake.specs.Shaken.{AnswersHead, AnswersNoHead}
 use Rattle.relay_shake.specs.declared.answer.Shake.{Shake}
 use Rattle.relay_shake.specs.declared.answer.Shake.TheVariants.{Accept}
 use Rattle.relay_proto.specs.declared.access.Access.{Access}
-use Rattle.relay_link.specs.Follows.{Rooms, no_room}
+use Rattle.relay_link.specs.Follows.{Rooms, no_opening}
 use Rattle.relay_link.specs.Stream.{stream_of}
 use Rattle.relay_link.specs.declared.head.TheConstants.{MAX_READ}
 use Rattle.relay_link.specs.declared.state.State.{State}
@@ -37,7 +37,7 @@ pub record Asks (received : List ℕ) (left : Option (List ℕ)) (room : List �
 -- asks for, and no other link may open one
 abbrev pub asked_by : {S : Type 0} → (S → Option (List ℕ)) → State S → Rooms
 asked_by remaining (Head stream bytes) = Asks bytes.items (remaining (stream_of stream))
-asked_by remaining _ = no_room
+asked_by remaining _ = no_opening
 
 module _ {S : Type 0} where
   abbrev pub awaits_head : State S → Bool

@@ -35,9 +35,9 @@ socket_cause OutOfMemory = cause.Memory
 socket_cause WriteBufferFull = cause.Full
 socket_cause _ = cause.Broken
 
--- a link ends for this cause at once, and does not wait for a close in vain
-abbrev pub IsPrompt : EndCause → Type 0
-IsPrompt given = given ≢ cause.Silent
+-- the cause is another one than that a close was awaited in vain
+abbrev pub IsNotSilent : EndCause → Type 0
+IsNotSilent given = given ≢ cause.Silent
 
 abbrev pub cause_of : Ending → EndCause
 cause_of (ending.Closing given) = given

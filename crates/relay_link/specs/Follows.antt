@@ -22,9 +22,9 @@ at hub session events = record { hub = hub; session = session; events = events }
 abbrev pub Rooms : Type 1
 Rooms = List ℕ → Access → Type 0
 
--- none, and one with one access
-abbrev pub no_room : Rooms
-no_room room access = ⊥
+-- no session is opened, or one in this room with this access
+abbrev pub no_opening : Rooms
+no_opening room access = ⊥
 
 abbrev pub is_room : List ℕ → Access → Rooms
 is_room name given room access = (room ≡ name) × (access ≡ given)

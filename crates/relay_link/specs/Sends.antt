@@ -1,39 +1,24 @@
 -- What a turn gives to the stream of its link: the reply to a head, and the frames of what the
 -- link's session drew.
-use Rattle.std.specs.Prelude.{⊤, ℕ, List, [], Option, Some, IsUtf8}
-use Rattle.std.specs.List.{AllByRecursion}
-use Rattle.std.specs.Io.KnownBytes.{Appends}
+use Rattle.std.specs.Prelude.{⊤, ℕ, List, [], Option, Some}
 use Rattle.tungstenite.specs.Socket.{Socket}
 use Rattle.relay_hub.specs.State.{State as Hub}
 use Rattle.relay_hub.specs.declared.event.Event.{Event}
-use Rattle.relay_link.specs.Frames.{framed, text_frames}
-use Rattle.relay_link.specs.Hears.{allowed_reads, Hears, Passes, ReadsOn}
 use Rattle.relay_link.specs.Replies.{Replies}
+use Rattle.relay_link.specs.Tells.{FramesTexts, ReadsFirst}
 use Rattle.relay_link.specs.declared.corked_writer.CorkedWriter.{CorkedWriter}
 use Rattle.relay_link.specs.declared.entrance.Entrance.{Entrance}
 use Rattle.relay_link.specs.declared.state.State.{State}
 use Rattle.relay_link.specs.declared.state.State.TheVariants.{Open}
 
 module _ {S : Type 0} where
-  -- The frames of these texts, each whole and in order, were framed behind what was framed before:
-  -- these, and nothing else. Each text is UTF-8. Nothing was read.
-  pub record FramesTexts (contents : S → Option (List ℕ)) (old new : Socket (CorkedWriter S))
-      (texts : List (List ℕ)) : Type 0 where
-    pub utf8 : AllByRecursion IsUtf8 texts
-    pub frames : Appends (framed contents old) (framed contents new) (text_frames texts)
-    pub reads_on : ReadsOn old new
-
-  -- An open link framed these texts. If it read before, what was framed before that stays, and what
-  -- the read itself sends is as the WebSocket says of it; the text that it found is what the events
-  -- pass to the hub.
+  -- an open link framed these texts, and may have read before
   pub data FramesInTurn (remaining contents : S → Option (List ℕ)) (hub : Hub) (session : ℕ)
       (events : List Event) (old new : Socket (CorkedWriter S)) (texts : List (List ℕ)) : Type 0 where
     writes : FramesTexts contents old new texts
         → FramesInTurn remaining contents hub session events old new texts
-    reads : (ready heard : Socket (CorkedWriter S)) (passed : List (List ℕ))
-        → Appends (framed contents old) (framed contents ready) [] → ReadsOn old ready
-        → Passes [] events passed
-        → Hears remaining (allowed_reads hub (Some session) 1) ready heard passed
+    reads : (heard : Socket (CorkedWriter S))
+        → ReadsFirst remaining contents hub (Some session) [] events old heard
         → FramesTexts contents heard new texts
         → FramesInTurn remaining contents hub session events old new texts
 

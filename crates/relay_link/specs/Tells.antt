@@ -5,7 +5,7 @@ use Rattle.std.specs.Io.KnownBytes.{Appends}
 use Rattle.relay_hub.specs.State.{State as Hub}
 use Rattle.relay_hub.specs.declared.event.Event.{Event}
 use Rattle.tungstenite.specs.Socket.{Socket}
-use Rattle.relay_link.specs.Follows.{Point, at, no_room, Follows, drawn}
+use Rattle.relay_link.specs.Follows.{Point, at, no_opening, Follows, drawn}
 use Rattle.relay_link.specs.Frames.{text_frames, framed, Frames}
 use Rattle.relay_link.specs.Hears.{allowed_reads, Hears, Passes, ReadsOn}
 use Rattle.relay_link.specs.Terms.{Serves, KeepsTerms}
@@ -15,7 +15,7 @@ use Rattle.relay_link.specs.declared.state.State.TheVariants.{Open}
 
 -- the events from one point to another drew these texts, each in UTF-8
 pub record Drew (texts : List (List ℕ)) (p q : Point) : Type 0 where
-  pub follows : Follows no_room p q
+  pub follows : Follows no_opening p q
   pub texts_are : drawn follows ≡ texts
   pub utf8 : AllByRecursion IsUtf8 texts
 
@@ -24,7 +24,7 @@ module _ {S : Type 0} where
   -- framed: all of them, whole, in order, and nothing else. Each is UTF-8.
   pub record Tells (contents : S → Option (List ℕ)) (p q : Point)
       (old new : Socket (CorkedWriter S)) : Type 0 where
-    pub follows : Follows no_room p q
+    pub follows : Follows no_opening p q
     pub utf8 : AllByRecursion IsUtf8 (drawn follows)
     pub frames : Frames contents old new (text_frames (drawn follows))
 
@@ -72,26 +72,36 @@ module _ {S : Type 0} where
 
   -- ---- what a public turn says
 
-  -- The bytes that were framed before, and the frames of the texts that the events drew, each whole
-  -- and in order: these, and nothing else, are what is framed now. Each of the texts is UTF-8.
-  -- Nothing was read.
-  pub record Told (contents : S → Option (List ℕ)) (p q : Point) (old new : Socket (CorkedWriter S))
-      : Type 0 where
-    pub follows : Follows no_room p q
-    pub utf8 : AllByRecursion IsUtf8 (drawn follows)
-    pub frames : Appends (framed contents old) (framed contents new) (text_frames (drawn follows))
+  -- The frames of these texts, each whole and in order, were framed behind what was framed before:
+  -- these, and nothing else. Each text is UTF-8. Nothing was read.
+  pub record FramesTexts (contents : S → Option (List ℕ)) (old new : Socket (CorkedWriter S))
+      (texts : List (List ℕ)) : Type 0 where
+    pub utf8 : AllByRecursion IsUtf8 texts
+    pub frames : Appends (framed contents old) (framed contents new) (text_frames texts)
     pub reads_on : ReadsOn old new
 
-  -- The same of a turn that may hear. What was framed before it reads stays, and what the read
-  -- itself sends is as the WebSocket says of it. The text that the read finds is what the events
-  -- pass to the hub; the next turn reads on behind it.
-  pub record Answered (remaining contents : S → Option (List ℕ)) (p q : Point)
-      (old new : Socket (CorkedWriter S)) : Type 0 where
+  -- A session's link may read once, while the hub hears the session. What was framed before it
+  -- reads stays, and what the read itself sends is as the WebSocket says of it. The text that the
+  -- read finds is what the events pass to the hub; the next turn reads on behind it.
+  pub record ReadsFirst (remaining contents : S → Option (List ℕ)) (hub : Hub)
+      (session : Option ℕ) (before after : List Event) (old heard : Socket (CorkedWriter S))
+      : Type 0 where
     pub ready : Socket (CorkedWriter S)
     pub sent : Appends (framed contents old) (framed contents ready) []
     pub reads_on : ReadsOn old ready
     pub texts : List (List ℕ)
-    pub passes : Passes p.events q.events texts
+    pub passes : Passes before after texts
+    pub hears : Hears remaining (allowed_reads hub session 1) ready heard texts
+
+  -- the texts that the events drew were framed, and nothing else
+  pub record Told (contents : S → Option (List ℕ)) (p q : Point) (old new : Socket (CorkedWriter S))
+      : Type 0 where
+    pub follows : Follows no_opening p q
+    pub framed : FramesTexts contents old new (drawn follows)
+
+  -- the same of a turn that may read before
+  pub record Answered (remaining contents : S → Option (List ℕ)) (p q : Point)
+      (old new : Socket (CorkedWriter S)) : Type 0 where
     pub heard : Socket (CorkedWriter S)
-    pub hears : Hears remaining (allowed_reads p.hub p.session 1) ready heard texts
+    pub reads : ReadsFirst remaining contents p.hub p.session p.events q.events old heard
     pub told : Told contents p q heard new

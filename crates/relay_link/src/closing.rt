@@ -1,7 +1,7 @@
 //! The turn of a closing link, whose session is closed and which waits for the other side's close
 //! frame.
 ghost use Rattle.std.specs.Prelude.{◌≡◌, ◌+◌, ◌≤◌, is_some, Some, None, IfErr};
-ghost use Rattle.relay_link.specs.Ends.{IsPrompt, turns_left};
+ghost use Rattle.relay_link.specs.Ends.{IsNotSilent, turns_left};
 ghost use Rattle.relay_link.specs.Stage.{leaves, stage_of, session_of, IsForward};
 ghost use Rattle.relay_link.specs.Tells.{IsServing};
 ghost use Rattle.relay_link.specs.declared.end_cause.EndCause.TheVariants.{Silent};
@@ -44,7 +44,7 @@ pub(crate) fn turn<S: Read + Write + Drop>(mut socket: Socket<S>, turns: u64) ->
 /// Sends pending output, then reads one message and drops it. The flush behind a message lets the
 /// stream know that another turn was asked for.
 fn let_go<S: Read + Write + Drop>(socket: &mut Socket<S>) -> Result<(), EndCause>
-    ensures { IfErr result IsPrompt }
+    ensures { IfErr result IsNotSilent }
 {
     if socket.get_ref().has_output() {
         flush(socket)?;

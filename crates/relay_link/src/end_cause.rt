@@ -28,13 +28,13 @@ pub enum EndCause {
 impl EndCause {
     ghost use Rattle.std.specs.Prelude.{◌≡◌};
     ghost use Rattle.relay_link.specs.SocketError.{IsOfSocket};
-    ghost use Rattle.relay_link.specs.Ends.{socket_cause, IsPrompt};
+    ghost use Rattle.relay_link.specs.Ends.{socket_cause, IsNotSilent};
 
     /// The cause for an error of a socket whose handshake is done.
     pub(crate) fn of(error: &Error) -> EndCause
         requires { IsOfSocket error.now }
         ensures cause { result ≡ socket_cause error.now }
-        ensures prompt { IsPrompt result }
+        ensures not_silent { IsNotSilent result }
     {
         match error {
             Error::ConnectionClosed

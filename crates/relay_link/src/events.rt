@@ -1,7 +1,7 @@
 //! The hub calls that a link makes, each recorded as an event.
 ghost use Rattle.std.specs.Prelude.{◌≡◌, ◌+◌, ◌<◌, [], ◌∷◌, ◌++◌, length, is_some, Some, None, option_map, option_to_list, string_bytes, IfOk, OnOk, OnErr};
 ghost use Rattle.relay_hub.specs.Call.{opening};
-ghost use Rattle.relay_link.specs.Follows.{Follows, no_room, is_room, at, given, closing_of};
+ghost use Rattle.relay_link.specs.Follows.{Follows, no_opening, is_room, at, given, closing_of};
 ghost use Rattle.relay_link.specs.Hears.{Passes};
 ghost use Rattle.relay_link.specs.Stops.{NothingWaits, SomethingWaits};
 ghost use Rattle.relay_link.specs.Tells.{Drew};
@@ -84,7 +84,7 @@ pub(crate) fn receive(
     events: &mut EventLog,
 ) -> Result<(), AllocError>
     requires { length events.old < MAX_EVENTS }
-    ensures follows { Follows no_room (at hub.old (Some session) events.old)
+    ensures follows { Follows no_opening (at hub.old (Some session) events.old)
         (at hub.new (Some session) events.new) }
     ensures drew { Drew [] (at hub.old (Some session) events.old)
         (at hub.new (Some session) events.new) }
@@ -112,7 +112,7 @@ pub(crate) fn draw(
     events: &mut EventLog,
 ) -> Result<Option<String>, AllocError>
     requires { length events.old < MAX_EVENTS }
-    ensures follows { Follows no_room (at hub.old (Some session) events.old)
+    ensures follows { Follows no_opening (at hub.old (Some session) events.old)
         (at hub.new (Some session) events.new) }
     ensures drew { IfOk result (λ text.
         Drew (given (option_map string_bytes text)) (at hub.old (Some session) events.old)
@@ -139,7 +139,7 @@ pub(crate) fn draw(
 #[tactic(auto, using(crate::proofs::Hearing::passes_none))]
 pub(crate) fn close(hub: &mut Hub, session: u64, events: &mut EventLog)
     requires { length events.old < MAX_EVENTS }
-    ensures follows { Follows no_room (at hub.old (Some session) events.old)
+    ensures follows { Follows no_opening (at hub.old (Some session) events.old)
         (at hub.new None events.new) }
     ensures drew { Drew [] (at hub.old (Some session) events.old) (at hub.new None events.new) }
     ensures adds { Adds 1 0 0 events.old events.new }
@@ -155,7 +155,7 @@ pub(crate) fn close(hub: &mut Hub, session: u64, events: &mut EventLog)
 #[tactic(auto, using(crate::proofs::Following::follows_same))]
 pub(crate) fn end(hub: &mut Hub, session: Option<u64>, events: &mut EventLog)
     requires { length events.old < MAX_EVENTS }
-    ensures follows { Follows no_room (at hub.old session events.old) (at hub.new None events.new) }
+    ensures follows { Follows no_opening (at hub.old session events.old) (at hub.new None events.new) }
     ensures events { events.new ≡ events.old ++ closing_of session }
 {
     if let Some(session) = session {

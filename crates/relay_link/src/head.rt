@@ -4,7 +4,7 @@ ghost use Rattle.relay_link.specs.Adds.{Adds};
 ghost use Rattle.relay_link.specs.Asks.{Asks, Receives, awaits_head};
 ghost use Rattle.relay_link.specs.Entrance.{lets_in, Within};
 ghost use Rattle.relay_link.specs.Ends.{turns_left};
-ghost use Rattle.relay_link.specs.Follows.{Follows, no_room, is_room, at};
+ghost use Rattle.relay_link.specs.Follows.{Follows, no_opening, is_room, at};
 ghost use Rattle.relay_link.specs.Stage.{entered, leaves, stage_of, session_of, IsSound};
 ghost use Rattle.relay_link.specs.Hears.{Passes};
 ghost use Rattle.relay_link.specs.Replies.{Replies, RepliesTo, WritesReply};
@@ -60,7 +60,7 @@ pub(crate) fn listen<S: Read + Write + Drop>(
     ensures adds { Adds 2 0 0 events.old events.new }
     ensures serving { IsServing result.state }
     ensures cause { is_some result.cause ≡ leaves Head (stage_of result.state) }
-    ensures prompt { result.cause ≢ Some Silent }
+    ensures not_silent { result.cause ≢ Some Silent }
     ensures stop { result.stop ≡ None }
     ensures sound { IsSound result.state }
     ensures patient { MAX_TURNS ≤ turns_left result.state }
@@ -126,7 +126,7 @@ fn admit<S: Read + Write + Drop>(
     ensures adds { Adds 2 0 0 events.old events.new }
     ensures serving { IsServing result.state }
     ensures cause { is_some result.cause ≡ leaves Head (stage_of result.state) }
-    ensures prompt { result.cause ≢ Some Silent }
+    ensures not_silent { result.cause ≢ Some Silent }
     ensures stop { result.stop ≡ None }
     ensures sound { IsSound result.state }
     ensures patient { MAX_TURNS ≤ turns_left result.state }
@@ -157,7 +157,7 @@ fn turn_away<S: Read + Write + Drop>(
     events: &mut EventLog,
 ) -> Transition<S>
     requires { length events.old + 1 ≤ MAX_EVENTS }
-    ensures follows { Follows no_room (at hub.old None events.old)
+    ensures follows { Follows no_opening (at hub.old None events.old)
         (at hub.new (session_of result.state) events.new) }
     ensures past { awaits_head result.state ≡ false }
     ensures writes { WritesReply S.contents (written S.contents stream) (Refused 503)
@@ -166,7 +166,7 @@ fn turn_away<S: Read + Write + Drop>(
     ensures adds { Adds 1 0 0 events.old events.new }
     ensures serving { IsServing result.state }
     ensures cause { is_some result.cause ≡ leaves Head (stage_of result.state) }
-    ensures prompt { result.cause ≢ Some Silent }
+    ensures not_silent { result.cause ≢ Some Silent }
     ensures stop { result.stop ≡ None }
     ensures sound { IsSound result.state }
     ensures patient { MAX_TURNS ≤ turns_left result.state }
@@ -188,7 +188,7 @@ fn answer<S: Read + Write + Drop>(
     events: &mut EventLog,
 ) -> Transition<S>
     requires { length events.old + 1 ≤ MAX_EVENTS }
-    ensures follows { Follows no_room (at hub.old (entered verdict) events.old)
+    ensures follows { Follows no_opening (at hub.old (entered verdict) events.old)
         (at hub.new (session_of result.state) events.new) }
     ensures past { awaits_head result.state ≡ false }
     ensures writes { WritesReply S.contents (written S.contents stream) verdict rest.items
@@ -197,7 +197,7 @@ fn answer<S: Read + Write + Drop>(
     ensures adds { Adds 1 0 0 events.old events.new }
     ensures serving { IsServing result.state }
     ensures cause { is_some result.cause ≡ leaves Head (stage_of result.state) }
-    ensures prompt { result.cause ≢ Some Silent }
+    ensures not_silent { result.cause ≢ Some Silent }
     ensures stop { result.stop ≡ None }
     ensures sound { IsSound result.state }
     ensures patient { MAX_TURNS ≤ turns_left result.state }
@@ -216,7 +216,7 @@ pub(crate) fn reply<S: Read + Write + Drop>(
     events: &mut EventLog,
 ) -> Transition<S>
     requires { length events.old + 1 ≤ MAX_EVENTS }
-    ensures follows { Follows no_room (at hub.old (entered reply.verdict) events.old)
+    ensures follows { Follows no_opening (at hub.old (entered reply.verdict) events.old)
         (at hub.new (session_of result.state) events.new) }
     ensures past { awaits_head result.state ≡ false }
     ensures writes { WritesReply S.contents (written S.contents stream) reply.verdict
@@ -225,7 +225,7 @@ pub(crate) fn reply<S: Read + Write + Drop>(
     ensures adds { Adds 1 0 0 events.old events.new }
     ensures serving { IsServing result.state }
     ensures cause { is_some result.cause ≡ leaves Head (stage_of result.state) }
-    ensures prompt { result.cause ≢ Some Silent }
+    ensures not_silent { result.cause ≢ Some Silent }
     ensures stop { result.stop ≡ None }
     ensures sound { IsSound result.state }
     ensures patient { MAX_TURNS ≤ turns_left result.state }

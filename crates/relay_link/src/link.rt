@@ -5,7 +5,7 @@ ghost use Rattle.relay_link.specs.Asks.{asked_by, IsFresh, Receives};
 ghost use Rattle.relay_link.specs.BinaryAnswered.{BinaryAnsweredIfOpen};
 ghost use Rattle.relay_link.specs.Ends.{turns_left};
 ghost use Rattle.relay_link.specs.Entrance.{Within};
-ghost use Rattle.relay_link.specs.Follows.{Follows, no_room, at, closing_of};
+ghost use Rattle.relay_link.specs.Follows.{Follows, no_opening, at, closing_of};
 ghost use Rattle.relay_link.specs.Hears.{PassesTexts};
 ghost use Rattle.relay_link.specs.Replies.{Replies};
 ghost use Rattle.relay_link.specs.Stage.{stage_of, session_of, has_corked_output, is_idle, leaves, ended, IsForward, IsSound};
@@ -241,7 +241,7 @@ impl<S: Read + Write + Drop> Link<S> {
     /// ```
     pub fn end(&mut self, alloc: Global, hub: &mut Hub) -> Result<Turn, AllocError>
         ensures follows { IfOk result (λ turn.
-            Follows no_room (at hub.old (session_of self.old) [])
+            Follows no_opening (at hub.old (session_of self.old) [])
             (at hub.new (session_of self.new) turn.events.items)) }
         ensures closes { IfOk result
             (λ turn. turn.events.items ≡ closing_of (session_of self.old)) }

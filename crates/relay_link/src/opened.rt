@@ -2,8 +2,8 @@
 ghost use Rattle.std.specs.Prelude.{◌≡◌, ◌≢◌, ◌+◌, ◌≤◌, length, is_some, true, [], Some, IfOk, OnOk, OnErr, IfErr};
 ghost use Rattle.relay_link.specs.Adds.{Adds, texts_of};
 ghost use Rattle.relay_link.specs.BinaryAnswered.{BinaryAnswered, BinaryAnsweredIn};
-ghost use Rattle.relay_link.specs.Ends.{IsPrompt, cause_of, settled, turns_left};
-ghost use Rattle.relay_link.specs.Follows.{Follows, no_room, at, given};
+ghost use Rattle.relay_link.specs.Ends.{IsNotSilent, cause_of, settled, turns_left};
+ghost use Rattle.relay_link.specs.Follows.{Follows, no_opening, at, given};
 ghost use Rattle.relay_link.specs.Stops.{Stops, StopsIn};
 ghost use Rattle.relay_link.specs.Stage.{leaves, stage_of, session_of, is_over, IsForward};
 ghost use Rattle.relay_link.specs.Hears.{allowed_reads, Finds, Passes, PassesOn, SendsAndPassesOn, ReadsTexts};
@@ -30,8 +30,10 @@ use tungstenite::{CloseCode, Message, Utf8Bytes};
 /// How an open link ends.
 #[derive(Clone, Copy)]
 enum Ending {
-    /// The link waits for the other side's close.
+    /// The closing handshake goes on: a close was sent, and the other side's is awaited; or that
+    /// was read, and the answer to it is still to be sent.
     Closing(EndCause),
+    /// The link is dropped as it is.
     Gone(EndCause),
 }
 
@@ -58,7 +60,7 @@ pub(crate) fn turn<S: Read + Write + Drop>(
 ) -> Transition<S>
     requires space { length events.old + draws + 2 ≤ MAX_EVENTS }
     requires serves { Serves socket.conn }
-    ensures follows { Follows no_room (at hub.old (Some session) events.old)
+    ensures follows { Follows no_opening (at hub.old (Some session) events.old)
         (at hub.new (session_of result.state) events.new) }
     ensures talks { IfOpen (Talks S.remaining S.contents (texts_of phase))
         (at hub.old (Some session) events.old) socket hub.new events.new result.state }
@@ -70,7 +72,7 @@ pub(crate) fn turn<S: Read + Write + Drop>(
     ensures adds { Adds (draws + 2) (texts_of phase) draws events.old events.new }
     ensures cause { is_some result.cause ≡ leaves Open (stage_of result.state) }
     ensures forward { IsForward Open (stage_of result.state) }
-    ensures prompt { result.cause ≢ Some Silent }
+    ensures not_silent { result.cause ≢ Some Silent }
     ensures patient { MAX_TURNS ≤ turns_left result.state }
 {
     grow_read_buffer(&mut socket);
@@ -91,8 +93,8 @@ fn finish<S: Read + Write + Drop>(
     events: &mut EventLog,
 ) -> Transition<S>
     requires space { length events.old + 1 ≤ MAX_EVENTS }
-    requires prompt { IfErr turned (λ ending. IsPrompt (cause_of ending)) }
-    ensures follows { Follows no_room (at hub.old (Some session) events.old)
+    requires not_silent { IfErr turned (λ ending. IsNotSilent (cause_of ending)) }
+    ensures follows { Follows no_opening (at hub.old (Some session) events.old)
         (at hub.new (session_of result.state) events.new) }
     ensures settled { result ≡ settled turned socket session }
     ensures stays { OnOk turned ((result.state ≡ State.Open socket session) × (hub.new ≡ hub.old)
@@ -102,7 +104,7 @@ fn finish<S: Read + Write + Drop>(
     ensures adds { Adds 1 0 0 events.old events.new }
     ensures cause { is_some result.cause ≡ leaves Open (stage_of result.state) }
     ensures forward { IsForward Open (stage_of result.state) }
-    ensures prompt { result.cause ≢ Some Silent }
+    ensures not_silent { result.cause ≢ Some Silent }
     ensures patient { MAX_TURNS ≤ turns_left result.state }
 {
     match turned {
@@ -130,7 +132,7 @@ fn serve<S: Read + Write + Drop>(
     events: &mut EventLog,
 ) -> Result<DrawStop, Ending>
     requires { length events.old + draws + 1 ≤ MAX_EVENTS }
-    ensures follows { Follows no_room (at hub.old (Some session) events.old)
+    ensures follows { Follows no_opening (at hub.old (Some session) events.old)
         (at hub.new (Some session) events.new) }
     ensures stop { IfOk result (λ stop.
         Stops stop draws session hub.new events.old events.new socket.new) }
@@ -141,7 +143,7 @@ fn serve<S: Read + Write + Drop>(
     ensures passes { SendsAndPassesOn S.remaining
         (allowed_reads hub.old (Some session) (texts_of phase)) socket.old events.old events.new }
     ensures adds { Adds (draws + 1) (texts_of phase) draws events.old events.new }
-    ensures prompt { IfErr result (λ ending. IsPrompt (cause_of ending)) }
+    ensures not_silent { IfErr result (λ ending. IsNotSilent (cause_of ending)) }
 {
     if !flush(socket)? {
         return Ok(DrawStop::Pending);
@@ -175,7 +177,7 @@ fn hear_and_draw<S: Read + Write + Drop>(
     events: &mut EventLog,
 ) -> Result<DrawStop, Ending>
     requires { length events.old + draws + 1 ≤ MAX_EVENTS }
-    ensures follows { Follows no_room (at hub.old (Some session) events.old)
+    ensures follows { Follows no_opening (at hub.old (Some session) events.old)
         (at hub.new (Some session) events.new) }
     ensures stop { IfOk result (λ stop.
         Stops stop draws session hub.new events.old events.new socket.new) }
@@ -186,7 +188,7 @@ fn hear_and_draw<S: Read + Write + Drop>(
     ensures passes { PassesOn S.remaining (allowed_reads hub.old (Some session) (texts_of phase))
         socket.old events.old events.new }
     ensures adds { Adds (draws + 1) (texts_of phase) draws events.old events.new }
-    ensures prompt { IfErr result (λ ending. IsPrompt (cause_of ending)) }
+    ensures not_silent { IfErr result (λ ending. IsNotSilent (cause_of ending)) }
 {
     hear(alloc, socket, session, phase, hub, events)?;
     let stop = draw_messages(alloc, socket, session, draws, hub, events)?;
@@ -204,7 +206,7 @@ fn hear<S: Read + Write + Drop>(
     events: &mut EventLog,
 ) -> Result<(), Ending>
     requires { length events.old + 1 ≤ MAX_EVENTS }
-    ensures follows { Follows no_room (at hub.old (Some session) events.old)
+    ensures follows { Follows no_opening (at hub.old (Some session) events.old)
         (at hub.new (Some session) events.new) }
     ensures drew { OnOk result (Drew [] (at hub.old (Some session) events.old)
         (at hub.new (Some session) events.new)) }
@@ -214,7 +216,7 @@ fn hear<S: Read + Write + Drop>(
     ensures binary { BinaryAnswered S.contents result socket.new }
     ensures quiet { OnErr result (Passes events.old events.new []) }
     ensures adds { Adds 1 (texts_of phase) 0 events.old events.new }
-    ensures prompt { IfErr result (λ ending. IsPrompt (cause_of ending)) }
+    ensures not_silent { IfErr result (λ ending. IsNotSilent (cause_of ending)) }
 {
     if !phase.reads() || !hub.may_hear(session) {
         return Ok(());
@@ -232,7 +234,7 @@ fn hear_text<S: Read + Write + Drop>(
     events: &mut EventLog,
 ) -> Result<(), Ending>
     requires { length events.old + 1 ≤ MAX_EVENTS }
-    ensures follows { Follows no_room (at hub.old (Some session) events.old)
+    ensures follows { Follows no_opening (at hub.old (Some session) events.old)
         (at hub.new (Some session) events.new) }
     ensures drew { OnOk result (Drew [] (at hub.old (Some session) events.old)
         (at hub.new (Some session) events.new)) }
@@ -241,7 +243,7 @@ fn hear_text<S: Read + Write + Drop>(
     ensures binary { BinaryAnswered S.contents result socket.new }
     ensures quiet { OnErr result (Passes events.old events.new []) }
     ensures adds { Adds 1 1 0 events.old events.new }
-    ensures prompt { IfErr result (λ ending. IsPrompt (cause_of ending)) }
+    ensures not_silent { IfErr result (λ ending. IsNotSilent (cause_of ending)) }
 {
     let Some(text) = next_text(socket)? else {
         return Ok(());
@@ -259,7 +261,7 @@ fn next_text<S: Read + Write + Drop>(socket: &mut Socket<S>) -> Result<Option<Te
     ensures finds { IfOk result (λ text. Finds S.remaining socket.old socket.new (given text)) }
     ensures terms { OnOk result (KeepsTerms socket.old.conn socket.new.conn) }
     ensures binary { BinaryAnswered S.contents result socket.new }
-    ensures prompt { IfErr result (λ ending. IsPrompt (cause_of ending)) }
+    ensures not_silent { IfErr result (λ ending. IsNotSilent (cause_of ending)) }
 {
     let Some(message) = read(socket)? else {
         return Ok(None);
@@ -276,7 +278,8 @@ fn next_text<S: Read + Write + Drop>(socket: &mut Socket<S>) -> Result<Option<Te
 }
 
 /// Draws messages and frames each: up to `draws`, until none waits, the stream takes no output, or
-/// memory is refused for one, which asks for another turn. Returns which of these it was.
+/// memory is refused for a draw, which asks for another turn. Returns which of these it was. If it
+/// is refused for the frame of a message that was drawn, the link ends.
 #[tactic(auto, using(crate::proofs::Following::follows_same, crate::proofs::Following::follows_then, crate::proofs::Hearing::passes_same, crate::proofs::Hearing::passes_then, crate::proofs::Telling::tells_start, crate::proofs::Telling::tells_on, crate::proofs::Telling::tells_text))]
 fn draw_messages<S: Read + Write + Drop>(
     alloc: Global,
@@ -287,7 +290,7 @@ fn draw_messages<S: Read + Write + Drop>(
     events: &mut EventLog,
 ) -> Result<DrawStop, EndCause>
     requires { length events.old + draws ≤ MAX_EVENTS }
-    ensures follows { Follows no_room (at hub.old (Some session) events.old)
+    ensures follows { Follows no_opening (at hub.old (Some session) events.old)
         (at hub.new (Some session) events.new) }
     ensures stop { IfOk result (λ stop.
         Stops stop draws session hub.new events.old events.new socket.new) }
@@ -295,7 +298,7 @@ fn draw_messages<S: Read + Write + Drop>(
         (at hub.new (Some session) events.new) socket.old socket.new) }
     ensures passes { Passes events.old events.new [] }
     ensures adds { Adds draws 0 draws events.old events.new }
-    ensures prompt { IfErr result IsPrompt }
+    ensures not_silent { IfErr result IsNotSilent }
 {
     for _ in 0..draws {
         let text = match events::draw(alloc, hub, session, events) {

@@ -7,7 +7,7 @@ ghost use Rattle.websocket.specs.Connection.{close_step};
 ghost use Rattle.websocket.specs.declared.protocol.config.Role.TheVariants.{Server};
 ghost use Rattle.relay_link.specs.declared.end_cause.EndCause.TheVariants.{Stream};
 ghost use Rattle.relay_link.specs.Frames.{Frames, text_frame};
-ghost use Rattle.relay_link.specs.Ends.{IsPrompt};
+ghost use Rattle.relay_link.specs.Ends.{IsNotSilent};
 ghost use Rattle.relay_link.specs.Hears.{ReadsOnce};
 ghost use Rattle.relay_link.specs.Stream.{is_blocked, written};
 ghost use Rattle.relay_link.specs.SocketError.{IsOfSocket};
@@ -86,7 +86,7 @@ pub(crate) fn grow_read_buffer<S: Read + Write + Drop>(socket: &mut Socket<S>)
 pub(crate) fn read<S: Read + Write + Drop>(
     socket: &mut Socket<S>,
 ) -> Result<Option<Message>, EndCause>
-    ensures prompt { IfErr result IsPrompt }
+    ensures not_silent { IfErr result IsNotSilent }
     ensures terms { OnOk result (KeepsTerms socket.old.conn socket.new.conn) }
     ensures reads { IfOk result (λ found. ReadsOnce S.remaining socket.old socket.new found) }
 {
@@ -125,7 +125,7 @@ fn least_len(message: &Message) -> usize {
 /// Sends pending output. `false` if the stream is blocked, so that output may still be pending.
 #[tactic(auto, using(crate::proofs::SocketErrors::flush_error, crate::proofs::Framing::flushed))]
 pub(crate) fn flush<S: Read + Write + Drop>(socket: &mut Socket<S>) -> Result<bool, EndCause>
-    ensures prompt { IfErr result IsPrompt }
+    ensures not_silent { IfErr result IsNotSilent }
     ensures frames { Frames S.contents socket.old socket.new [] }
     ensures waits { IfOk result (λ sent. sent ≡ false → is_blocked socket.new.stream ≡ true) }
 {
@@ -140,7 +140,7 @@ pub(crate) fn write<S: Read + Write + Drop>(
     socket: &mut Socket<S>,
     words: Utf8Bytes,
 ) -> Result<bool, EndCause>
-    ensures prompt { IfErr result IsPrompt }
+    ensures not_silent { IfErr result IsNotSilent }
     ensures frames { OnOk result (Frames S.contents socket.old socket.new (text_frame words)) }
     ensures stopped { IfErr result (λ cause. cause ≡ Stream
         → Frames S.contents socket.old socket.new (text_frame words)) }
@@ -156,7 +156,7 @@ pub(crate) fn close<S: Read + Write + Drop>(
     socket: &mut Socket<S>,
     code: CloseCode,
 ) -> Result<bool, EndCause>
-    ensures prompt { IfErr result IsPrompt }
+    ensures not_silent { IfErr result IsNotSilent }
     ensures wrote { OnOk result (Writes (written S.contents) socket.old socket.new
         (close_step socket.old.conn (Some (code, [])))) }
     ensures stopped { IfErr result (λ cause. cause ≡ Stream
@@ -170,7 +170,7 @@ pub(crate) fn close<S: Read + Write + Drop>(
 /// Whether a call has sent all pending output.
 fn is_sent(sent: Result<(), Error>) -> Result<bool, EndCause>
     requires { IfErr sent IsOfSocket }
-    ensures prompt { IfErr result IsPrompt }
+    ensures not_silent { IfErr result IsNotSilent }
     ensures waits { OnOk result (IfErr sent IsIo) }
     ensures stopped { IfErr result (λ cause. cause ≡ Stream → IfErr sent IsIo) }
 {
