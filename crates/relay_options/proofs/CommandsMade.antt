@@ -5,7 +5,7 @@ use Rattle.clap.proofs.OnLiterals.{clap_on_literals}
 use Rattle.std.specs.Prelude.{is_some}
 use Rattle.clap.specs.Walk.{is_empty, is_simple_arg}
 use Rattle.clap.specs.Words.{AddsArg, AddsSubcommand, App, Rule, app_of, is_simple, rule_of}
-use Rattle.clap.specs.Words.{with_rule, with_subcommand}
+use Rattle.clap.specs.Words.{is_simple_and_free, with_rule, with_subcommand}
 use Rattle.clap.specs.declared.builder.Arg.{Arg}
 use Rattle.clap.specs.declared.builder.Command.{Command}
 use Rattle.relay_options.specs.CommandLine.{relay_command}
@@ -53,3 +53,8 @@ command_added app inner old sub new is s plain adds =
 pub relay_is_simple : is_simple relay_command ≡ true
 unfolding clap_on_literals
 relay_is_simple = refl
+
+-- so that `clap` states the faults exactly
+pub relay_is_free : is_simple_and_free relay_command ≡ true
+unfolding clap_on_literals
+relay_is_free = refl

@@ -2,3 +2,4 @@
 pub mod AddressesRead
 pub mod NumbersRead
 pub mod CommandsMade
+pub mod Stops

@@ -1,19 +1,25 @@
 -- What the command line means: its commands and options, their defaults, and the job that the
 -- words ask for.
-use Rattle.std.specs.Prelude.{ℕ, ◌≡◌, ◌&&◌, ◌^◌, Bool, true, false, List, [], ◌∷◌, length, nat_lt}
-use Rattle.std.specs.Prelude.{Option, Some, None, option_and_then, if◌then◌else◌, codes}
+use Rattle.std.specs.Prelude.{ℕ, ◌≡◌, ◌≢◌, ◌&&◌, ◌^◌, ◌⊎◌, ⊤, Bool, true, false, List, [], ◌∷◌}
+use Rattle.std.specs.Prelude.{Option, Some, None, option_and_then, if◌then◌else◌, codes, length}
+use Rattle.std.specs.Prelude.{nat_lt}
 use Rattle.std.specs.Option.{option_or}
 use Rattle.std.specs.List.{list_all}
 use Rattle.std.specs.Char.{digit_value}
 use Rattle.std.specs.Net.Grammar.{IsIpText}
 use Rattle.std.specs.Str.Parse.{digits_value, without_leading_plus}
 use Rattle.std.specs.declared.net.ip_addr.IpAddr.{IpAddr}
-use Rattle.clap.specs.Words.{App, Row, Rule, Text, new_app, new_rule, one_of, subcommand_of}
-use Rattle.clap.specs.Words.{with_rule, with_subcommand}
+use Rattle.clap.specs.Words.{App, IsAmong, Kinds, Row, Rule, Text, fault_of, new_app, new_rule}
+use Rattle.clap.specs.Words.{one_of, subcommand_of, with_rule, with_subcommand}
 use Rattle.clap.specs.declared.builder.ArgAction.TheVariants.{Set, SetTrue}
 use Rattle.clap.specs.declared.builder.ValueParser.TheVariants.{Unsigned}
+use Rattle.clap.specs.declared.error.ErrorKind.{ErrorKind}
+use Rattle.clap.specs.declared.error.ErrorKind.TheVariants.{DisplayHelp, DisplayVersion}
+use Rattle.clap.specs.declared.error.ErrorKind.TheVariants.{OutOfMemory}
 use Rattle.relay_options.specs.declared.job.Job.{Job}
 use Rattle.relay_options.specs.declared.job.Job.TheVariants.{Script, Loop, Follow, Serve}
+use Rattle.relay_options.specs.declared.job.Stop.{Stop}
+use Rattle.relay_options.specs.declared.job.Stop.TheVariants.{Help, Misuse, NoMemory}
 use Rattle.relay_options.specs.declared.settings.Settings.{Settings}
 use Rattle.relay_options.specs.declared.settings.TheConstants.{MAX_EPOCH, MAX_HISTORY, MAX_PORT}
 use Rattle.relay_options.specs.declared.settings.TheConstants.{MAX_ROOMS, MAX_SESSIONS, MAX_ROUNDS}
@@ -209,3 +215,35 @@ IsChosenBy (Some named) now job = IsJobOf named.0 named.1 now job
 -- the words, of which the first is the program's name, ask for this job
 abbrev pub AskFor : List Text → Option ℕ → Job → Type 0
 AskFor words now job = IsChosenBy (subcommand_of relay_command words) now job
+
+-- ---- why there is no job
+
+-- the kinds of what `clap` finds in the words that is no job: help, the version, and what is wrong;
+-- none if it finds nothing
+abbrev pub faults_of : List Text → Kinds
+faults_of words = fault_of relay_command words
+
+-- something is wrong: a kind other than help and the version
+abbrev pub HasMistake : Kinds → Type 0
+HasMistake kinds =
+    (kind : ErrorKind) × IsAmong kind kinds × (kind ≢ DisplayHelp) × (kind ≢ DisplayVersion)
+
+-- A text for standard output comes only if the words ask for help or the version. One for standard
+-- error comes only if `clap` finds something wrong, or finds nothing and a check of this crate
+-- fails.
+abbrev pub StopsAt : Kinds → Stop → Type 0
+StopsAt kinds (Help text) = IsAmong DisplayHelp kinds ⊎ IsAmong DisplayVersion kinds
+StopsAt kinds (Misuse text) = (kinds ≡ []) ⊎ HasMistake kinds
+StopsAt kinds NoMemory = ⊤
+
+-- the reason that an error of this kind gives
+abbrev pub StopsBy : ErrorKind → Stop → Type 0
+StopsBy kind (Help text) = (kind ≡ DisplayHelp) ⊎ (kind ≡ DisplayVersion)
+StopsBy kind (Misuse text) =
+    (kind ≢ OutOfMemory) × (kind ≢ DisplayHelp) × (kind ≢ DisplayVersion)
+StopsBy kind NoMemory = ⊤
+
+-- a reason for standard error, or that memory ran out
+abbrev pub IsNoHelp : Stop → Type 0
+IsNoHelp (Help text) = ⊥
+IsNoHelp _ = ⊤

@@ -1,9 +1,10 @@
 //! The options of each job with a hub: what they accept, and the settings that they give.
-ghost use Rattle.std.specs.Prelude.{[], ◌∷◌, ◌≡◌, ◌≤◌, IfOk, Some, codes};
+ghost use Rattle.std.specs.Prelude.{[], ◌∷◌, ◌≡◌, ◌≤◌, IfErr, IfOk, Some, codes};
 ghost use Rattle.std.specs.Option.{option_or};
 ghost use Rattle.clap.specs.Words.{app_of, found_of, rows_of, rule_of};
-ghost use Rattle.relay_options.specs.CommandLine.{AreSettingsOf, epoch_option, history_option};
-ghost use Rattle.relay_options.specs.CommandLine.{history_weight_option, number_in, outbox_option};
+ghost use Rattle.relay_options.specs.CommandLine.{AreSettingsOf, IsNoHelp, epoch_option};
+ghost use Rattle.relay_options.specs.CommandLine.{history_option, history_weight_option};
+ghost use Rattle.relay_options.specs.CommandLine.{number_in, outbox_option};
 ghost use Rattle.relay_options.specs.CommandLine.{rooms_option, sessions_option};
 ghost use Rattle.relay_options.specs.CommandLine.{telling_weight_option, view_weight_option};
 ghost use Rattle.relay_options.specs.CommandLine.{waiting_weight_option, with_script_options};
@@ -150,6 +151,7 @@ pub(crate) fn settings_of(
 ) -> Result<Settings, Stop>
     ensures range { IfOk result AreSettings }
     ensures given { IfOk result (AreSettingsOf (rows_of (found_of given.now)) epoch) }
+    ensures no_help { IfErr result IsNoHelp }
 {
     Ok(Settings {
         history: number_of(alloc, given, "history", 1, MAX_HISTORY)?,
@@ -170,6 +172,7 @@ fn epoch_of(alloc: Global, given: &ArgMatches<'_>, other: Option<u64>) -> Result
     ensures range { IfOk result (λ epoch. epoch ≤ MAX_EPOCH) }
     ensures given { IfOk result (λ epoch.
         option_or (number_in (codes "epoch") (rows_of (found_of given.now))) other ≡ Some epoch) }
+    ensures no_help { IfErr result IsNoHelp }
 {
     match given_number(given, "epoch").or(other) {
         Some(epoch) if epoch <= MAX_EPOCH => Ok(epoch),
@@ -187,6 +190,7 @@ fn weight_of(alloc: Global, given: &ArgMatches<'_>, name: &str) -> Result<Option
     ensures range { IfOk result IsLimit }
     ensures given { IfOk result (λ weight. number_in name.now (rows_of (found_of given.now))
         ≡ weight) }
+    ensures no_help { IfErr result IsNoHelp }
 {
     match given_number(given, name) {
         None => Ok(None),

@@ -1,7 +1,9 @@
 //! The parser of the command line, by `clap`.
-ghost use Rattle.std.specs.Prelude.{◌≡◌, IfOk, map, option_map, string_bytes};
-ghost use Rattle.clap.specs.Words.{found_of, rows_of, subcommand_of, subcommand_rows_of};
-ghost use Rattle.relay_options.specs.CommandLine.{AskFor, IsChosenBy, relay_command};
+ghost use Rattle.std.specs.Prelude.{[], ◌≡◌, IfErr, IfOk, map, option_map, string_bytes};
+ghost use Rattle.clap.specs.Words.{FailsBy, found_of, kind_of, rows_of, subcommand_of};
+ghost use Rattle.clap.specs.Words.{subcommand_rows_of};
+ghost use Rattle.relay_options.specs.CommandLine.{AskFor, IsChosenBy, IsNoHelp, StopsAt, StopsBy};
+ghost use Rattle.relay_options.specs.CommandLine.{faults_of, relay_command};
 ghost use Rattle.relay_options.specs.Ranges.{IsPossible};
 
 use crate::commands::relay;
@@ -14,9 +16,9 @@ use clap::{ArgMatches, Error};
 use std::alloc::Global;
 
 /// Parses the arguments `words`, of which the first is the program's name. The job is the one that
-/// the words ask for, and each number of it is in range. Otherwise the reason is help or the
-/// version that was asked for, words that name no job or a number out of range, or that memory ran
-/// out ([`Stop`]).
+/// the words ask for, and each number of it is in range; a word or an option that no command has
+/// gives none. Otherwise the reason is help or the version, only if it was asked for, words that
+/// name no job or a number out of range, or that memory ran out ([`Stop`]).
 ///
 /// `now` is the number of seconds since 1970, if the clock can be read. It is the epoch of a server
 /// without `--epoch`, so that each run has another one. Without both, the job is refused.
@@ -29,9 +31,12 @@ use std::alloc::Global;
 /// let settings = Settings { history: 8, ..Settings::DEFAULT };
 /// assert!(rt; matches!(job_of(alloc, &words, None), Ok(job) if job == Job::Script(settings)));
 /// ```
+#[tactic(auto, using(crate::proofs::Stops::stops_at, crate::proofs::Stops::refused_at))]
 pub fn job_of(alloc: Global, words: &[String], now: Option<u64>) -> Result<Job, Stop>
     ensures range { IfOk result IsPossible }
     ensures asked { IfOk result (AskFor (map string_bytes words.now) now) }
+    ensures faultless { IfOk result (λ _. faults_of (map string_bytes words.now) ≡ []) }
+    ensures stopped { IfErr result (StopsAt (faults_of (map string_bytes words.now))) }
 {
     match parsed(alloc, words) {
         Ok(matches) => chosen(alloc, &matches, now),
@@ -41,8 +46,9 @@ pub fn job_of(alloc: Global, words: &[String], now: Option<u64>) -> Result<Job, 
 
 /// What the words are to the commands and options of the program.
 fn parsed<'a>(alloc: Global, words: &'a [String]) -> Result<ArgMatches<'a>, Error>
-    ensures { IfOk result (λ matches. subcommand_rows_of matches
+    ensures matches { IfOk result (λ matches. subcommand_rows_of matches
         ≡ subcommand_of relay_command (map string_bytes words.now)) }
+    ensures fails { FailsBy (faults_of (map string_bytes words.now)) result }
 {
     relay(alloc)?.try_get_matches_from(words)
 }
@@ -51,6 +57,7 @@ fn parsed<'a>(alloc: Global, words: &'a [String]) -> Result<ArgMatches<'a>, Erro
 fn chosen(alloc: Global, matches: &ArgMatches<'_>, now: Option<u64>) -> Result<Job, Stop>
     ensures range { IfOk result IsPossible }
     ensures asked { IfOk result (IsChosenBy (subcommand_rows_of matches.now) now) }
+    ensures no_help { IfErr result IsNoHelp }
 {
     match named(matches) {
         None => Ok(Job::Script(Settings::DEFAULT)),
@@ -72,7 +79,10 @@ fn named<'m, 'a>(matches: &'m ArgMatches<'a>) -> Option<(&'a str, &'m ArgMatches
     matches.subcommand()
 }
 
-fn stop_of(alloc: Global, error: &Error) -> Stop {
+/// The reason that an error of `clap` gives.
+fn stop_of(alloc: Global, error: &Error) -> Stop
+    ensures { StopsBy (kind_of error.now) result }
+{
     if error.kind() == ErrorKind::OutOfMemory {
         return Stop::NoMemory;
     }

@@ -1,8 +1,9 @@
 //! The options of `relay serve` besides those of its hub: what they accept, and the job that they
 //! ask for.
-ghost use Rattle.std.specs.Prelude.{[], ◌≡◌, IfOk, codes};
+ghost use Rattle.std.specs.Prelude.{[], ◌≡◌, IfErr, IfOk, codes};
 ghost use Rattle.clap.specs.Words.{app_of, found_of, rows_of, rule_of};
-ghost use Rattle.relay_options.specs.CommandLine.{IsAddressIn, IsFlagIn, IsJobOf, admin_option};
+ghost use Rattle.relay_options.specs.CommandLine.{IsAddressIn, IsFlagIn, IsJobOf, IsNoHelp};
+ghost use Rattle.relay_options.specs.CommandLine.{admin_option};
 ghost use Rattle.relay_options.specs.CommandLine.{closed_option, epoch_option};
 ghost use Rattle.relay_options.specs.CommandLine.{forget_rooms_option, listen_option, log_option};
 ghost use Rattle.relay_options.specs.CommandLine.{number_in, output_option, port_option};
@@ -154,6 +155,7 @@ fn output<'a>(alloc: Global) -> Arg<'a>
 pub(crate) fn serve_of(alloc: Global, given: &ArgMatches<'_>, now: Option<u64>) -> Result<Job, Stop>
     ensures range { IfOk result IsPossible }
     ensures asked { IfOk result (IsJobOf (codes "serve") (rows_of (found_of given.now)) now) }
+    ensures no_help { IfErr result IsNoHelp }
 {
     let port = number_of(alloc, given, "port", 0, MAX_PORT)? as u16;
     let admin = admin_of(alloc, given, port)?;
@@ -172,7 +174,8 @@ pub(crate) fn serve_of(alloc: Global, given: &ArgMatches<'_>, now: Option<u64>) 
 
 /// The address for clients.
 fn listen_of(alloc: Global, given: &ArgMatches<'_>) -> Result<IpAddr, Stop>
-    ensures { IfOk result (IsAddressIn (codes "listen") (rows_of (found_of given.now))) }
+    ensures given { IfOk result (IsAddressIn (codes "listen") (rows_of (found_of given.now))) }
+    ensures no_help { IfErr result IsNoHelp }
 {
     match given_address(given, "listen") {
         Some(address) => Ok(address),
@@ -188,6 +191,7 @@ fn admin_of(alloc: Global, given: &ArgMatches<'_>, port: u16) -> Result<Option<u
     ensures range { IfOk result (IsAdmin port) }
     ensures given { IfOk result (λ admin. number_in (codes "admin") (rows_of (found_of given.now))
         ≡ admin) }
+    ensures no_help { IfErr result IsNoHelp }
 {
     match given_number(given, "admin") {
         None => Ok(None),
@@ -204,6 +208,7 @@ fn admin_of(alloc: Global, given: &ArgMatches<'_>, port: u16) -> Result<Option<u
 fn closed_of(alloc: Global, given: &ArgMatches<'_>, admin: Option<u16>) -> Result<bool, Stop>
     ensures range { IfOk result (λ closed. CanBeOpened closed admin) }
     ensures given { IfOk result (IsFlagIn (codes "closed") (rows_of (found_of given.now))) }
+    ensures no_help { IfErr result IsNoHelp }
 {
     let closed = is_set(given, "closed");
     if closed && admin.is_none() {

@@ -1,7 +1,8 @@
 //! How the value of an option is read: a number within a range, an address, or a flag.
-ghost use Rattle.std.specs.Prelude.{[], ◌≡◌, ◌≤◌, IfOk, IfSome, Some};
+ghost use Rattle.std.specs.Prelude.{[], ◌≡◌, ◌≤◌, IfErr, IfOk, IfSome, Some};
 ghost use Rattle.clap.specs.Words.{found_of, rows_of, rule_of};
-ghost use Rattle.relay_options.specs.CommandLine.{IsAddressIn, IsFlagIn, number_in, number_option};
+ghost use Rattle.relay_options.specs.CommandLine.{IsAddressIn, IsFlagIn, IsNoHelp, number_in};
+ghost use Rattle.relay_options.specs.CommandLine.{number_option};
 
 use crate::job::Stop;
 use clap::builder::ValueParser;
@@ -33,6 +34,7 @@ pub(crate) fn number_of(
     ensures range { IfOk result (λ number. (least ≤ number) × (number ≤ most)) }
     ensures given { IfOk result (λ number. number_in name.now (rows_of (found_of given.now))
         ≡ Some number) }
+    ensures no_help { IfErr result IsNoHelp }
 {
     match given_number(given, name) {
         Some(number) if least <= number && number <= most => Ok(number),

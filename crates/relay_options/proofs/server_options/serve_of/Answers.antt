@@ -4,7 +4,7 @@ use Rattle.relay_options.proofs.server_options.serve_of.Goals as goal
 pub returns-clause-asked : goal.returns-clause-asked
 returns-clause-asked c = (
   refl,
-  c.in_ok-listen_of.ensures,
+  c.in_ok-listen_of.ensures.given,
   c.in_ok-port.ensures.given,
   c.in_ok-admin.ensures.given,
   c.in_ok-number_of.ensures.given,
