@@ -19,7 +19,7 @@ use Rattle.relay_link.specs.declared.state.State.{State as Link}
 use Rattle.relay_link.specs.declared.state.State.TheVariants.{Head}
 use Rattle.relay_link.specs.declared.visit.Visit.{Visit}
 use Rattle.relay_proto.specs.declared.access.Access.{Access}
-use Rattle.relay_event_loop.specs.Connections.{connections_of, limit_of}
+use Rattle.relay_event_loop.specs.Connections.{connections_of, limit_of, made_by, made_after}
 use Rattle.relay_event_loop.specs.Ready.{left_of, contents_of}
 use Rattle.relay_link.specs.Sends.{Sends}
 use Rattle.relay_event_loop.specs.declared.connection.Connection.{Connection}
@@ -114,11 +114,20 @@ module _ {S R : Type 0} (remaining contents : S → Option (List ℕ)) where
       × Advances (left_of remaining) (contents_of contents) old.hub (links_of old.connections)
       new.hub (links_of new.connections)
 
-  -- it holds no more connections than before
+  -- no round is made, and it holds no more connections than before
   abbrev pub KeepsFewer : Server S R → Server S R → Type 0
-  KeepsFewer old new = Keeps old new × (connections_of new ≤ connections_of old)
+  KeepsFewer old new =
+      Keeps old new × (made_by new ≡ made_by old) × (connections_of new ≤ connections_of old)
 
-  -- none is added beyond the limit
+  -- no connection is added beyond the limit
+  abbrev pub IsWithin : Server S R → Server S R → Type 0
+  IsWithin old new = connections_of old ≤ limit_of old → connections_of new ≤ limit_of old
+
+  -- no round is made, and no connection is added beyond the limit
   abbrev pub KeepsWithin : Server S R → Server S R → Type 0
-  KeepsWithin old new =
-      Keeps old new × (connections_of old ≤ limit_of old → connections_of new ≤ limit_of old)
+  KeepsWithin old new = Keeps old new × (made_by new ≡ made_by old) × IsWithin old new
+
+  -- so many rounds are made, and no connection is added beyond the limit
+  abbrev pub MakesWithin : ℕ → Server S R → Server S R → Type 0
+  MakesWithin rounds old new =
+      Keeps old new × (made_by new ≡ made_after rounds old) × IsWithin old new

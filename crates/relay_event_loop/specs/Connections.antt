@@ -1,4 +1,5 @@
--- The connections of a server: how many it holds, and whether the hub accepts a request of one.
+-- What of a server is counted: its connections and its rounds; and whether the hub accepts a
+-- request of a connection.
 use Rattle.std.specs.Prelude.{ℕ, ◌+◌, ◌-◌, ◌/◌, ◌^◌, min, max, Bool, true, Option, Some, None}
 use Rattle.relay_hub.specs.State.{State, session_of}
 use Rattle.relay_hub.specs.Queries.{may_hear}
@@ -12,6 +13,14 @@ connections_of s = slab_len s.connections
 -- how many connections a server may hold
 abbrev pub limit_of : {S R : Type 0} → Server S R → ℕ
 limit_of s = s.most
+
+-- how many rounds a server has made
+abbrev pub made_by : {S R : Type 0} → Server S R → ℕ
+made_by s = s.rounds
+
+-- so many after some more, as far as they are counted
+abbrev pub made_after : {S R : Type 0} → ℕ → Server S R → ℕ
+made_after rounds s = min (2 ^ 64 - 1) (made_by s + rounds)
 
 -- whether clients may enter
 abbrev pub entrance_of : {S R : Type 0} → Server S R → Entrance

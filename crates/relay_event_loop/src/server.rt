@@ -1,8 +1,7 @@
 //! The relay as a server: one thread that serves non-blocking sockets in rounds.
 ghost use Rattle.std.specs.Prelude.{◌≡◌, ◌≤◌, []};
-ghost use Rattle.relay_hub.specs.State.{IsHub};
 ghost use Rattle.relay_event_loop.specs.Advances.{KeepsFewer};
-ghost use Rattle.relay_event_loop.specs.Connections.{connections_of, limit_of, hub_of, connection_limit};
+ghost use Rattle.relay_event_loop.specs.Connections.{connections_of, limit_of, hub_of, connection_limit, made_by, made_after};
 ghost use Rattle.relay_event_loop.specs.Rounds.{RoundsOf, ConnectedOf};
 
 mod accepting;
@@ -104,7 +103,7 @@ impl<S: Read + Write + OpenStream + Drop, R: Readiness<S>> Server<S, R> {
         ensures empty { connections_of result ≡ 0 }
         ensures limit { limit_of result ≡ connection_limit hub.config.sessions }
         ensures hub { hub_of result ≡ hub }
-        ensures connected { IsHub hub → hub.homes ≡ [] → ConnectedOf result }
+        ensures connected { hub.homes ≡ [] → ConnectedOf result }
     {
         let config = hub.config();
         Server {
@@ -158,7 +157,7 @@ impl<S: Read + Write + OpenStream + Drop, R: Readiness<S>> Server<S, R> {
     ///   of the round have cost 5 ms, or the last one's room may not be read ahead. What is left is
     ///   done in the next round, which does not wait. Out of memory leaves a will likewise;
     /// - writes again, if anything was read or done since;
-    /// - forgets a room, if none is left for another name ([`Server::forget_rooms`]).
+    /// - forgets a room, if the server does so ([`Server::forget_rooms`]) and no other can begin.
     ///
     /// A turn takes what it cost from the credit of its connection, and each round of credit gives
     /// the same to all ([`relay_schedule::ReadyQueue`]). A room may be read ahead if none of its
@@ -166,14 +165,14 @@ impl<S: Read + Write + OpenStream + Drop, R: Readiness<S>> Server<S, R> {
     /// what may wait for a session. So a client that has credit waits for one turn of each that has
     /// credit too, and for the last turn of those who owe. Once memory was refused to a turn, the
     /// hub gives some back ([`relay_hub::Hub::shed`]), so that resumes and waiting patches become
-    /// snapshots; what was to be drawn is drawn in a later round, but a link that had read a text
-    /// for which there is none ends. Links that are gone are dropped. If it is unknown what is
-    /// ready, everything counts as ready.
+    /// snapshots. What was to be drawn is drawn in a later round; but a link ends if there is no
+    /// memory for a text that it read, or for the frame of one that it drew. Links that are gone
+    /// are dropped. If it is unknown what is ready, everything counts as ready.
     ///
     /// Once the links hold as much output as they may, no snapshot of a document that weighs more
-    /// than 4,096 is drawn. Each second those with the largest buffers are then ended, if nothing
-    /// waits in them, since a buffer keeps its largest size, or if nothing of them was taken for 30
-    /// seconds.
+    /// than 4,096 is drawn. A link's buffer never shrinks. So in each second the links with the
+    /// largest buffers of which nothing waits, or nothing was taken for 30 seconds, are ended,
+    /// until the others hold half of what they may.
     #[tactic(auto, using(crate::proofs::Rules::rounds))]
     pub fn round<L: OpenListener<Stream = S>, J: ConnectionLog>(
         &mut self,
@@ -182,6 +181,7 @@ impl<S: Read + Write + OpenStream + Drop, R: Readiness<S>> Server<S, R> {
         log: &mut J,
     )
         ensures rounds { RoundsOf S.remaining S.contents self.old self.new }
+        ensures made { made_by self.new ≡ made_after 1 self.old }
         ensures limit { limit_of self.new ≡ limit_of self.old }
         ensures within { connections_of self.old ≤ limit_of self.old
             → connections_of self.new ≤ limit_of self.old }
@@ -207,6 +207,7 @@ impl<S: Read + Write + OpenStream + Drop, R: Readiness<S>> Server<S, R> {
         log: &mut J,
     )
         ensures rounds { RoundsOf S.remaining S.contents self.old self.new }
+        ensures made { made_by self.new ≡ made_after rounds self.old }
         ensures limit { limit_of self.new ≡ limit_of self.old }
         ensures within { connections_of self.old ≤ limit_of self.old
             → connections_of self.new ≤ limit_of self.old }

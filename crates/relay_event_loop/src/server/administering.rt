@@ -1,7 +1,7 @@
 //! A server that an operator may ask, have forget a room, open to clients, and stop.
 ghost use Rattle.std.specs.Prelude.{◌≡◌, ◌≤◌};
-ghost use Rattle.relay_event_loop.specs.Advances.{KeepsFewer, KeepsWithin};
-ghost use Rattle.relay_event_loop.specs.Connections.{connections_of, limit_of};
+ghost use Rattle.relay_event_loop.specs.Advances.{KeepsFewer, MakesWithin};
+ghost use Rattle.relay_event_loop.specs.Connections.{connections_of, limit_of, made_by, made_after};
 ghost use Rattle.relay_event_loop.specs.Rounds.{RoundsOf};
 
 use super::Server;
@@ -44,6 +44,7 @@ where
         log: &mut J,
     ) -> u64
         ensures at_most { result ≤ rounds }
+        ensures made { made_by self.new ≡ made_after result self.old }
         ensures rounds { RoundsOf S.remaining S.contents self.old self.new }
         ensures limit { limit_of self.new ≡ limit_of self.old }
         ensures within { connections_of self.old ≤ limit_of self.old
@@ -66,7 +67,7 @@ where
         log: &mut J,
     ) -> u64
         ensures at_most { result ≤ rounds }
-        ensures kept { KeepsWithin S.remaining S.contents self.old self.new }
+        ensures makes { MakesWithin S.remaining S.contents result self.old self.new }
     {
         for before in 0..rounds {
             admin.counters.begin(self.readiness.now());

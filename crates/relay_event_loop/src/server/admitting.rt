@@ -1,7 +1,7 @@
 //! In which rooms clients may enter.
 ghost use Rattle.std.specs.Prelude.{◌≡◌};
 ghost use Rattle.relay_event_loop.specs.Advances.{KeepsFewer};
-ghost use Rattle.relay_event_loop.specs.Connections.{connections_of, entrance_of, hub_of, limit_of};
+ghost use Rattle.relay_event_loop.specs.Connections.{connections_of, entrance_of, hub_of, limit_of, made_by};
 ghost use Rattle.relay_event_loop.specs.Rounds.{RoundsOf};
 
 use super::Server;
@@ -33,6 +33,7 @@ impl<S: Read + Write + OpenStream + Drop, R: Readiness<S>> Server<S, R> {
         ensures entrance { entrance_of self.new ≡ entrance }
         ensures hub { hub_of self.new ≡ hub_of self.old }
         ensures limit { limit_of self.new ≡ limit_of self.old }
+        ensures made { made_by self.new ≡ made_by self.old }
         ensures connections { connections_of self.new ≡ connections_of self.old }
         ensures rounds { RoundsOf S.remaining S.contents self.old self.new }
     {

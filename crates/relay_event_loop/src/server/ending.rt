@@ -1,7 +1,7 @@
 //! How connections end: what is said of them in the log, and what gives memory back.
 ghost use Rattle.std.specs.Prelude.{◌≡◌, ◌≤◌};
 ghost use Rattle.relay_event_loop.specs.Advances.{KeepsFewer};
-ghost use Rattle.relay_event_loop.specs.Connections.{connections_of, limit_of};
+ghost use Rattle.relay_event_loop.specs.Connections.{connections_of, limit_of, made_by};
 ghost use Rattle.relay_event_loop.specs.Rounds.{RoundsOf};
 
 use super::Server;
@@ -27,6 +27,7 @@ impl<S: Read + Write + OpenStream + Drop, R: Readiness<S>> Server<S, R> {
     #[tactic(auto, using(crate::proofs::Rules::rounds))]
     pub fn end<J: ConnectionLog>(&mut self, alloc: Global, log: &mut J)
         ensures rounds { RoundsOf S.remaining S.contents self.old self.new }
+        ensures made { made_by self.new ≡ made_by self.old }
         ensures limit { limit_of self.new ≡ limit_of self.old }
         ensures fewer { connections_of self.new ≤ connections_of self.old }
     {

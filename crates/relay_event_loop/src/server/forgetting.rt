@@ -6,7 +6,7 @@
 //! opened or closed, since nothing else begins a room or leaves one empty.
 ghost use Rattle.std.specs.Prelude.{◌≡◌};
 ghost use Rattle.relay_event_loop.specs.Advances.{KeepsFewer};
-ghost use Rattle.relay_event_loop.specs.Connections.{connections_of, limit_of, hub_of};
+ghost use Rattle.relay_event_loop.specs.Connections.{connections_of, limit_of, hub_of, made_by};
 ghost use Rattle.relay_event_loop.specs.Rounds.{RoundsOf};
 
 use super::Server;
@@ -51,6 +51,7 @@ impl<S: Read + Write + OpenStream + Drop, R: Readiness<S>> Server<S, R> {
     pub fn forget_rooms(&mut self)
         ensures hub { hub_of self.new ≡ hub_of self.old }
         ensures limit { limit_of self.new ≡ limit_of self.old }
+        ensures made { made_by self.new ≡ made_by self.old }
         ensures connections { connections_of self.new ≡ connections_of self.old }
         ensures rounds { RoundsOf S.remaining S.contents self.old self.new }
     {

@@ -10,8 +10,8 @@ use std::alloc::Global;
 use std::io::{Read, Write};
 use std::net::OpenStream;
 
-/// What the read turns and the wills of a round may cost together, but for the last one, in
-/// microseconds.
+/// What the read turns and the wills of a round cost together, in microseconds, before it begins no
+/// other, but for one of a connection that owes and one will.
 pub(super) const ROUND_COST: u64 = 5_000;
 
 /// How many passes a round may make: each but the last costs a microsecond at least.

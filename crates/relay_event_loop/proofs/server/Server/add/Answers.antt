@@ -11,9 +11,11 @@ returns g c = (
         c.in_ok-insert.ensures.was_vacant c.in_ok-insert.ensures.updates
         c.in_ok-connection.ensures,
   ),
+  refl,
   λ within.
       omega (arith, c.len.ensures, c.if-len-self.false, c.in_ok-insert.ensures.len),
 )
 
 pub returns-in_err-insert : goal.returns-in_err-insert
-returns-in_err-insert g c = rw c.in_err-insert.ensures.err ((refl, none_changed), λ within. within)
+returns-in_err-insert g c =
+    rw c.in_err-insert.ensures.err ((refl, none_changed), refl, λ within. within)

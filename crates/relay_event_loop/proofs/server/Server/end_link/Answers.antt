@@ -12,7 +12,8 @@ returns g c = (
         (sym c.in-Some.ensures.value) _ _ _ c.in-Ok.ensures.follows c.in-Ok.ensures.closes
         c.in-Ok.ensures.gone) c.finish_turn.ensures.0.1,
   ),
-  no_more_then _ _ _ c.finish_turn.ensures.1
+  c.finish_turn.ensures.1,
+  no_more_then _ _ _ c.finish_turn.ensures.2
       (no_more c.args.self.now.connections c.args.key c.in-Some.connection.now _
       (sym c.in-Some.ensures.value)),
 )
@@ -25,7 +26,8 @@ returns-in_default-end g c = (
         _ (sym c.in-Some.ensures.value) _ _ c.in_default-end.ensures.hub_unchanged
         c.in_default-end.ensures.unchanged) c.shed.ensures.0.1,
   ),
-  no_more_then _ _ _ c.shed.ensures.1
+  c.shed.ensures.1,
+  no_more_then _ _ _ c.shed.ensures.2
       (no_more c.args.self.now.connections c.args.key c.in-Some.connection.now _
       (sym c.in-Some.ensures.value)),
 )

@@ -10,6 +10,7 @@ returns g c = (
     woken c.args.self.now.connections c.args.key c.in-Some.connection.now _
         (sym c.in-Some.ensures.value) _ c.note_fault.ensures,
   ),
+  refl,
   no_more c.args.self.now.connections c.args.key c.in-Some.connection.now _
       (sym c.in-Some.ensures.value),
 )

@@ -17,7 +17,8 @@ returns g c = (
         (inl c.in-Ok.ensures.frames) c.in-Ok.ensures.replies)
         c.finish_turn.ensures.0.1,
   ),
-  no_more_then _ _ _ c.finish_turn.ensures.1
+  c.finish_turn.ensures.1,
+  no_more_then _ _ _ c.finish_turn.ensures.2
       (no_more c.args.self.now.connections c.args.key c.in-Some.connection.now _
       (sym c.in-Some.ensures.value)),
 )
@@ -30,7 +31,8 @@ returns-in_default-write_turn g c = (
         _ (sym c.in-Some.ensures.value) _ _ c.in_default-write_turn.ensures.hub_unchanged
         c.in_default-write_turn.ensures.unchanged) c.shed.ensures.0.1,
   ),
-  no_more_then _ _ _ c.shed.ensures.1
+  c.shed.ensures.1,
+  no_more_then _ _ _ c.shed.ensures.2
       (no_more c.args.self.now.connections c.args.key c.in-Some.connection.now _
       (sym c.in-Some.ensures.value)),
 )
