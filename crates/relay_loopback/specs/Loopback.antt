@@ -4,10 +4,16 @@ use Rattle.relay_hub.specs.declared.event.Answer.TheVariants as answer
 use Rattle.relay_hub.specs.declared.event.Event.{Event}
 use Rattle.relay_hub.specs.declared.event.Event.TheVariants.{Open, Receive, Draw, Close, DoWill}
 use Rattle.relay_hub.specs.declared.event.Heard.TheVariants.{Answered, Busy}
+use Rattle.relay_hub.specs.State.{State}
+use Rattle.relay_loopback.specs.declared.loopback.Loopback.{Loopback}
 use Rattle.relay_script.specs.Script as script
 use Rattle.relay_script.specs.Script.{Stage, stage}
 use Rattle.relay_script.specs.declared.outcome.Outcome.{Outcome}
 use Rattle.relay_script.specs.declared.outcome.Outcome.TheVariants as outcome
+
+-- the hub behind the sockets
+abbrev pub hub_of : {N L S : Type 0} → Loopback N L S → State
+hub_of loopback = loopback.hub
 
 -- The outcomes of an event that a client can see: the hub's answer, without the number of outboxes
 -- that folded; the status of a refused handshake; or nothing within the limit of turns. A will is

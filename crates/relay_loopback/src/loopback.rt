@@ -1,6 +1,8 @@
 //! The transport over loopback sockets: a hub, whose server and clients alternate in one thread.
-ghost use Rattle.std.specs.Prelude.{◌≡◌, ◌↔◌, ◌⊎◌, IfErr, IsErrOf};
+ghost use Rattle.std.specs.Prelude.{◌≡◌, ◌↔◌, ◌⊎◌, [], IfOk, IfErr, IsErrOf};
 ghost use Rattle.relay_hub.specs.Queries.{BadLimits};
+ghost use Rattle.relay_hub.specs.Stands.{StandsFor};
+ghost use Rattle.relay_loopback.specs.Loopback.{hub_of};
 ghost use Rattle.relay_script.specs.declared.fault.ScriptFault.TheVariants as script;
 ghost use Rattle.relay_loopback.specs.declared.fault.ServeFault.TheVariants.{Ended};
 ghost use Rattle.relay_loopback.specs.Faults.{IsListen};
@@ -29,6 +31,7 @@ impl<'n, N: Net> Loopback<'n, N> {
     /// or `NoMemory` as [`Hub::with_config`] does, before a port is opened, and with
     /// [`ServeFault::Listen`] if no port can be.
     pub fn new(alloc: Global, net: &'n N, config: HubConfig) -> Result<Loopback<'n, N>, ServeFault>
+        ensures stands { IfOk result (λ loopback. StandsFor config [] (hub_of loopback)) }
         ensures fault { IfErr result (λ fault. IsListen fault ⊎ (fault ≡ Ended script.NoMemory)
             ⊎ (fault ≡ Ended script.BadLimit)) }
         ensures bad_limit { IsErrOf result (Ended script.BadLimit) ↔ BadLimits config }
@@ -106,7 +109,7 @@ impl<'n, N: Net> Transport for Loopback<'n, N> {
 /// The opening of a session. Nobody edits between the opening and this call, so its room is still
 /// at the revision that it was opened at.
 fn opening_of(hub: &Hub, session: u64) -> Opening {
-    let room = hub.room_of(session).and_then(|place| hub.room_at(place));
+    let room = hub.room_of(session).and_then(|index| hub.room_at(index));
     Opening {
         session,
         rev: room.map_or(0, |room| room.revision),

@@ -95,3 +95,13 @@ loop_ran answers see from input left old new ended begun same all end some limit
     (if_fault ended (λ fault.
     AnswersSome-seen answers LoopbackAnswers see same fault from input old new) some)
     limits)
+
+-- a run does not end for a fault that it never has
+pub never_ends : {B F : Type 0} (ended : Result B F) (late : F)
+    → IfErr ended (λ fault. fault ≢ late) → ended ≡ Err late → ⊥
+never_ends (Ok x) late other e = absurd (cc e)
+never_ends (Err fault) late other e = let same : fault ≡ late = cc in other same
+
+-- nor does a job with sockets, by such a run
+pub ended_apart : (fault : ScriptFault) → fault ≢ BadLimit → Ended fault ≢ Ended BadLimit
+ended_apart fault other e = let same : fault ≡ BadLimit = cc in other same

@@ -1,9 +1,15 @@
 -- Lemmas about the output of a server.
-use Rattle.std.proofs.Common.{◌≡◌, ◌≢◌, ◌∙◌, ℕ, ◌+◌, ◌≤◌, List, ◌++◌, length, take, Option, Some, None, Result, Ok, Err, OnOk, OnErr, IfErr, refl, sym, subst, arith, length-append, ◌⊎◌, inl, inr}
+use Rattle.std.proofs.Common.{◌≡◌, ◌≢◌, ◌∙◌, ℕ, ◌+◌, ◌≤◌, List, [], ◌++◌, length, take, Option, Some, None, Result, Ok, Err, OnOk, OnErr, IfErr, refl, sym, subst, arith, length-append, ◌⊎◌, inl, inr}
 use Rattle.std.proofs.lemmas.List.{take-append-le}
 use Rattle.std.proofs.Math.Seq.{take-append-add, take-length}
 use Rattle.std.specs.Io.KnownBytes.{Appends, Keeps}
 use Rattle.std.proofs.KnownBytes.{Appends-nil, Appends-trans, Keeps-refl}
+use Rattle.relay_event_loop.proofs.Advancing.{no_rounds}
+use Rattle.relay_event_loop.specs.Advances.{Links, with_turns}
+use Rattle.relay_event_loop.specs.Rounds.{Rounds}
+use Rattle.relay_hub.specs.Stands.{StandsFor}
+use Rattle.relay_hub.specs.State.{State}
+use Rattle.relay_hub.specs.declared.config.HubConfig.{HubConfig}
 use Rattle.relay_hub.specs.declared.fault.HubNewFault.{HubNewFault}
 use Rattle.relay_hub.specs.declared.fault.HubNewFault.TheVariants as hub_fault
 use Rattle.relay_script.specs.Faults.{not_made}
@@ -13,6 +19,7 @@ use Rattle.relay_script.specs.declared.fault.ScriptFault.TheVariants.{BadLimit, 
 use Rattle.relay_loopback.specs.declared.fault.ServeFault.{ServeFault}
 use Rattle.relay_loopback.specs.declared.fault.ServeFault.TheVariants.{Ended, Listen, Wait}
 use Rattle.relay_loopback.specs.Faults.{IsListen}
+use Rattle.relay_server.specs.Hosted.{HeadlineHolds}
 use Rattle.relay_server.specs.Jobs.{HasMade, HasNoSockets, Listens, ServeEnds, ServesUpTo}
 
 -- writing nothing writes a prefix
@@ -76,23 +83,25 @@ ends_all (Some admin) rounds port ended old new e all part uncut which = absurd 
 
 -- and of one with such a port, which may have made fewer rounds
 pub ends_stopped : (admin : Option ℕ) (operator rounds port : ℕ)
-    (ended : Result (Unit {0}) ServeFault) (old new : Option (List ℕ)) → admin ≡ Some operator
-    → OnOk ended ((made : ℕ) × (made ≤ rounds) × Appends old new (served_text port made))
+    (ended : Result (Unit {0}) ServeFault) (old new : Option (List ℕ)) (Makes : ℕ → Type 0)
+    → admin ≡ Some operator
+    → OnOk ended ((made : ℕ) × (made ≤ rounds) × Makes made
+    × Appends old new (served_text port made))
     → OnErr ended ((made : ℕ) × (made ≤ rounds) × AppendsPart old new (served_text port made))
     → IfErr ended (λ fault. fault ≡ Ended NoMemory → Listens port old new)
     → IfErr ended (λ fault. (fault ≡ Ended Output) ⊎ (fault ≡ Ended NoMemory))
     → ServesUpTo admin rounds ended old new
-ends_stopped None operator rounds port ended old new e all part uncut which = absurd (cc)
-ends_stopped (Some admin) operator rounds port (Ok u) old new e
-    (made, few, wrote) part uncut which =
+ends_stopped None operator rounds port ended old new Makes e all part uncut which = absurd (cc)
+ends_stopped (Some admin) operator rounds port (Ok u) old new Makes e
+    (made, few, count, wrote) part uncut which =
     (made, few, (port, wrote))
-ends_stopped (Some admin) operator rounds port (Err fault) old new e all (
+ends_stopped (Some admin) operator rounds port (Err fault) old new Makes e all (
   made,
   few,
   wrote,
 ) uncut (inl output) =
     (made, few, subst (λ f. ServeEnds made (Err f) old new) (sym output) (port, wrote))
-ends_stopped (Some admin) operator rounds port (Err fault) old new e all (
+ends_stopped (Some admin) operator rounds port (Err fault) old new Makes e all (
   made,
   few,
   wrote,
@@ -159,12 +168,13 @@ ends_unmade admin rounds hub_fault.NoMemory old =
 
 -- the last line, behind the first
 pub then_all_made : {E : Type 0} (r : Result (Unit {0}) E) (old mid new : Option (List ℕ))
-    (port made rounds : ℕ) → made ≤ rounds
+    (port made rounds : ℕ) (Makes : ℕ → Type 0) → Makes made → made ≤ rounds
     → Appends old mid (listening_text port) → OnOk r (Appends mid new (turns_text made))
-    → OnOk r ((count : ℕ) × (count ≤ rounds) × Appends old new (served_text port count))
-then_all_made (Ok u) old mid new port made rounds few first last =
-    (made, few, Appends-trans old mid new (listening_text port) (turns_text made) first last)
-then_all_made (Err fault) old mid new port made rounds few first last = tt
+    → OnOk r ((count : ℕ) × (count ≤ rounds) × Makes count
+    × Appends old new (served_text port count))
+then_all_made (Ok u) old mid new port made rounds Makes is few first last =
+    (made, few, is, Appends-trans old mid new (listening_text port) (turns_text made) first last)
+then_all_made (Err fault) old mid new port made rounds Makes is few first last = tt
 
 -- or a part of it
 pub then_part_made : {E : Type 0} (r : Result (Unit {0}) E) (old mid new : Option (List ℕ))
@@ -196,3 +206,20 @@ never_limited (Err e) (inl h) =
     λ limit. let same : Ended Output ≡ Ended BadLimit = sym h ∙ limit in absurd (cc same)
 never_limited (Err e) (inr h) =
     λ limit. let same : Ended NoMemory ≡ Ended BadLimit = sym h ∙ limit in absurd (cc same)
+
+-- ---- the hub of a server that began with the empty log
+
+pub headline_after : {S : Type 0} {remaining contents : S → Option (List ℕ)} {hub next : State}
+    {old new : Links S} (b : HubConfig) → StandsFor b [] hub
+    → Rounds remaining contents hub old next new → HeadlineHolds b next
+headline_after b begins rounds = record {
+  log = with_turns rounds.advances [];
+  stands = rounds.stands b [] begins;
+  exact = rounds.exact b [] begins;
+  each = rounds.each b [] begins;
+}
+
+pub headline_begun : {hub : State} (b : HubConfig) → StandsFor b [] hub → HeadlineHolds b hub
+headline_begun b begins =
+    headline_after {S = ℕ} {remaining = λ _. None} {contents = λ _. None} {old = λ _. None} b begins
+    no_rounds

@@ -1,5 +1,5 @@
 -- The ends of the program's jobs, and their statuses.
-use Rattle.std.specs.Prelude.{◌≡◌, ◌≤◌, ◌↔◌, ℕ, ◌⊎◌, ⊤, List, Option, Some, None, Result, Ok, Err, IsErrOf, string_bytes}
+use Rattle.std.specs.Prelude.{◌≡◌, ◌≤◌, ◌↔◌, ℕ, ◌⊎◌, ⊤, List, [], Option, Some, None, Result, Ok, Err, IsErrOf, string_bytes}
 use Rattle.std.specs.Io.KnownBytes.{IsAtEnd, Appends, Keeps}
 use Rattle.std.specs.declared.io.ErrorKind.{ErrorKind}
 use Rattle.std.specs.declared.io.ErrorKind.TheVariants as kind
@@ -9,7 +9,7 @@ use Rattle.relay_options.specs.declared.job.Job.TheVariants as job
 use Rattle.relay_options.specs.declared.job.Stop.{Stop}
 use Rattle.relay_options.specs.declared.job.Stop.TheVariants as stop
 use Rattle.relay_options.specs.declared.settings.Settings.{Settings}
-use Rattle.relay_options.specs.CommandLine.{AskFor}
+use Rattle.relay_options.specs.CommandLine.{AskFor, StopsAt, faults_of}
 use Rattle.relay_options.specs.Ranges.{IsPossible}
 use Rattle.relay_script.specs.Follow as follow
 use Rattle.relay_script.specs.Lines.{AppendsPart}
@@ -134,13 +134,15 @@ StopEnds (stop.Help text) status old new = Shows (string_bytes text) status old 
 StopEnds (stop.Misuse text) status old new = (status ≡ is.Misused) × (new ≡ old)
 StopEnds stop.NoMemory status old new = (status ≡ is.NoMemory) × (new ≡ old)
 
--- How the program ends: with the job that the words ask for, at some time, whose numbers are all
--- in range; or without a job, and nothing was read.
+-- How the program ends: with the job that the words ask for, at some time, whose numbers are all in
+-- range, if nothing is wrong with the words; or without a job, for a reason that they give, and
+-- nothing was read.
 abbrev pub WordsEnd : List (List ℕ) → Status → Option (List ℕ) → Option (List ℕ) → Option (List ℕ)
     → Option (List ℕ) → Type 0
 WordsEnd words status input left old new = ((now : Option ℕ) × (job : Job) × IsPossible job
-    × AskFor words now job × JobEnds job status input left old new)
-    ⊎ ((why : Stop) × (left ≡ input) × StopEnds why status old new)
+    × (faults_of words ≡ []) × AskFor words now job × JobEnds job status input left old new)
+    ⊎ ((why : Stop) × StopsAt (faults_of words) why × (left ≡ input)
+    × StopEnds why status old new)
 
 -- The status if the arguments could not be read: one of them is not UTF-8, which is a fault of the
 -- arguments; out of memory; or the system failed.

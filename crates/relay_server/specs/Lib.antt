@@ -1,3 +1,4 @@
 pub mod Config
+pub mod Hosted
 pub mod Jobs
 pub mod Printed

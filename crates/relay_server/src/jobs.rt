@@ -1,6 +1,8 @@
 //! The program's jobs, from its arguments to its exit status.
-ghost use Rattle.std.specs.Prelude.{◌≡◌, ◌↔◌, IsErrOf, map, string_bytes};
+ghost use Rattle.std.specs.Prelude.{◌≡◌, ◌≢◌, ◌↔◌, [], IfErr, IsErrOf, map, string_bytes};
 ghost use Rattle.relay_hub.specs.Queries.{BadLimits};
+ghost use Rattle.relay_hub.specs.Stands.{StandsFor};
+ghost use Rattle.relay_loopback.specs.Loopback.{hub_of};
 ghost use Rattle.relay_server.specs.Config.{config_of};
 ghost use Rattle.relay_server.specs.Jobs.{JobEnds, LoopEnds, Starts, StopEnds, code_of, sockets_status, unread_status};
 ghost use Rattle.relay_script.specs.declared.fault.ScriptFault.TheVariants.{BadLimit};
@@ -125,6 +127,23 @@ fn run_loop<N: Net, R: Read, W: Write>(
     ensures bad_limit { IsErrOf result (Ended BadLimit) ↔ BadLimits (config_of settings) }
 {
     let loopback = Loopback::new(alloc, net, config_of(settings))?;
+    answer_lines(alloc, loopback, reader, writer, settings)
+}
+
+/// Carries out the lines by a loopback whose hub stands for the empty log, with the configuration
+/// of these settings.
+fn answer_lines<N: Net, R: Read, W: Write>(
+    alloc: Global,
+    loopback: Loopback<'_, N>,
+    reader: &mut R,
+    writer: &mut W,
+    settings: Settings,
+) -> Result<(), ServeFault>
+    requires { StandsFor (config_of settings) [] (hub_of loopback) }
+    ensures ends { LoopEnds result (R.remaining reader.old) (R.remaining reader.new)
+        (W.contents writer.old) (W.contents writer.new) }
+    ensures limits { IfErr result (λ fault. fault ≢ Ended BadLimit) }
+{
     run_lines(alloc, &mut Script::new(alloc, loopback), reader, writer)?;
     Ok(())
 }

@@ -1,12 +1,15 @@
 //! The job `relay serve`: it listens, runs its rounds, and ends.
-ghost use Rattle.std.specs.Prelude.{ℕ, ◌≡◌, ◌≢◌, ◌≤◌, ◌↔◌, ◌⊎◌, OnOk, OnErr, IfErr, IsErrOf};
+ghost use Rattle.std.specs.Prelude.{ℕ, ◌≡◌, ◌≢◌, ◌≤◌, ◌↔◌, ◌⊎◌, [], OnOk, OnErr, IfErr, IsErrOf};
 ghost use Rattle.std.specs.Io.KnownBytes.{Appends};
 ghost use Rattle.relay_hub.specs.Queries.{BadLimits};
+ghost use Rattle.relay_hub.specs.Stands.{StandsFor};
 ghost use Rattle.relay_server.specs.Config.{config_of};
 ghost use Rattle.relay_server.specs.Jobs.{Listens, ServesUpTo};
 ghost use Rattle.relay_script.specs.Lines.{AppendsPart};
 ghost use Rattle.relay_server.specs.Printed.{line_of, served_text};
+ghost use Rattle.relay_event_loop.specs.Connections.{hub_of, made_by, made_after};
 ghost use Rattle.relay_event_loop.specs.Rounds.{RoundsOf};
+ghost use Rattle.relay_server.specs.Hosted.{HeadlineHolds};
 ghost use Rattle.relay_script.specs.declared.fault.ScriptFault.TheVariants.{BadLimit, NoMemory, Output};
 ghost use Rattle.relay_loopback.specs.declared.fault.ServeFault.TheVariants.{Ended};
 
@@ -108,7 +111,7 @@ fn serve_logged<N: Clock + Net, W: Write, J: ConnectionLog>(
     serve_hub(alloc, net, writer, log, hub, options, settings)
 }
 
-/// Serves a hub, which has the configuration of these settings.
+/// Serves a hub that stands for the empty log, with the configuration of these settings.
 #[tactic(auto, using(crate::proofs::ServeLemmas::ends_unheard, crate::proofs::ServeLemmas::unheard_unlimited))]
 fn serve_hub<N: Clock + Net, W: Write, J: ConnectionLog>(
     alloc: Global,
@@ -119,7 +122,7 @@ fn serve_hub<N: Clock + Net, W: Write, J: ConnectionLog>(
     options: ServeOptions,
     settings: Settings,
 ) -> Result<(), ServeFault>
-    requires { hub.config ≡ config_of settings }
+    requires { StandsFor (config_of settings) [] hub }
     ensures ends { ServesUpTo options.admin options.rounds result (W.contents writer.old)
         (W.contents writer.new) }
     ensures limits { IfErr result (λ fault. fault ≢ Ended BadLimit) }
@@ -130,7 +133,15 @@ fn serve_hub<N: Clock + Net, W: Write, J: ConnectionLog>(
     let Some(admin) = options.admin else {
         let readiness = AdminReadiness::without_port(polling, net);
         let mut server = server_of(alloc, hub, readiness, options);
-        return host(alloc, writer, log, &mut server, &bound, options.rounds);
+        return host(
+            alloc,
+            writer,
+            log,
+            &mut server,
+            &bound,
+            options.rounds,
+            settings,
+        );
     };
     let admin = bound_listener::open_admin(net, admin, &polling)?;
     let readiness = AdminReadiness::new(polling, net);
@@ -143,6 +154,7 @@ fn serve_hub<N: Clock + Net, W: Write, J: ConnectionLog>(
         &bound,
         &mut AdminPort::new(alloc, admin),
         options.rounds,
+        settings,
     )
 }
 
@@ -152,7 +164,9 @@ fn server_of<S: Read + Write + OpenStream + Drop, R: Readiness<S>>(
     hub: Hub,
     readiness: R,
     options: ServeOptions,
-) -> Server<S, R> {
+) -> Server<S, R>
+    ensures hub { hub_of result ≡ hub }
+{
     let most_output = options.output_mib.saturating_mul(MIB);
     let mut server = Server::new(alloc, hub, readiness, most_output);
     if options.forget_rooms {
@@ -164,7 +178,8 @@ fn server_of<S: Read + Write + OpenStream + Drop, R: Readiness<S>>(
     server
 }
 
-/// Prints the port, runs the rounds, ends every connection, and prints the number of rounds.
+/// Prints the port, runs the rounds, ends every connection, and prints the number of rounds. The
+/// server begins with a hub as [`serve_hub`] gets it.
 #[tactic(auto, using(crate::proofs::ServeLemmas::uncut_first, crate::proofs::ServeLemmas::uncut_last, relay_event_loop::proofs::Advancing::no_rounds))]
 fn host<L: OpenListener, P: Readiness<L::Stream>, W: Write, J: ConnectionLog>(
     alloc: Global,
@@ -173,10 +188,14 @@ fn host<L: OpenListener, P: Readiness<L::Stream>, W: Write, J: ConnectionLog>(
     server: &mut Server<L::Stream, P>,
     bound: &BoundListener<L>,
     rounds: u64,
+    settings: Settings,
 ) -> Result<(), ServeFault>
 where
     L::Stream: Read + Write + OpenStream + Drop,
+    requires begins { StandsFor (config_of settings) [] (hub_of server.old) }
+    ensures headline { HeadlineHolds (config_of settings) (hub_of server.new) }
     ensures rounds { RoundsOf L.Stream.remaining L.Stream.contents server.old server.new }
+    ensures made { OnOk result (made_by server.new ≡ made_after rounds server.old) }
     ensures done { OnOk result (Appends (W.contents writer.old) (W.contents writer.new)
         (served_text bound.now.port rounds)) }
     ensures stopped { OnErr result (AppendsPart (W.contents writer.old) (W.contents writer.new)
@@ -207,11 +226,15 @@ fn host_administered<
     bound: &BoundListener<L>,
     admin: &mut AdminPort<L>,
     rounds: u64,
+    settings: Settings,
 ) -> Result<(), ServeFault>
 where
     L::Stream: Read + Write + OpenStream + Drop,
+    requires begins { StandsFor (config_of settings) [] (hub_of server.old) }
+    ensures headline { HeadlineHolds (config_of settings) (hub_of server.new) }
     ensures rounds { RoundsOf L.Stream.remaining L.Stream.contents server.old server.new }
     ensures done { OnOk result ((made : ℕ) × (made ≤ rounds)
+        × (made_by server.new ≡ made_after made server.old)
         × Appends (W.contents writer.old) (W.contents writer.new)
         (served_text bound.now.port made)) }
     ensures stopped { OnErr result ((made : ℕ) × (made ≤ rounds)

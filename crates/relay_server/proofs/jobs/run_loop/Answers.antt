@@ -1,63 +1,15 @@
--- A run of the loop is a run of a script whose events have any of the outcomes that sockets can
--- give.
+-- The loop ends as its lines do, or without sockets; `BadLimit` comes only if a limit is out of
+-- range.
 use Rattle.std.proofs.lemmas.Result.{err_from_is_err_and}
-use Rattle.std.proofs.Common.{ℕ, List, ap}
-use Rattle.std.specs.Prelude.{⊤}
-use Rattle.relay_script.specs.Representation.{clients_of, stage_of}
-use Rattle.relay_script.specs.Script.{Stage, stage, Answers}
-use Rattle.relay_script.specs.declared.script.Script.{Script}
-use Rattle.relay_script.proofs.ScriptLemmas.{answers_seen}
-use Rattle.relay_loopback.specs.Loopback.{CanCome, LoopbackAnswers}
-use Rattle.relay_server.proofs.JobLemmas.{LoopEnds-none, loop_ran, limits_kept}
+use Rattle.relay_server.proofs.JobLemmas.{LoopEnds-none, limits_kept, never_ends}
 use Rattle.relay_server.proofs.jobs.run_loop.Goals as goal
-
--- the state of such a script, without its transport: its names
-abbrev see : {T : Type 0} → Script T → Stage ⊤
-see s = stage tt (clients_of s.clients)
-
-as_seen : {T : Type 0} (old new : Script T) (number : ℕ) (line answer : List ℕ)
-    → Answers (λ before event came after. CanCome event came) (λ before session shown.
-    ⊤) (stage_of old) number line (stage_of new) answer
-    → LoopbackAnswers (see old) number line (see new) answer
-as_seen old new number line answer h =
-    answers_seen (λ before event came after. CanCome event came) (λ before session shown.
-    ⊤) (λ before event came after. CanCome event came) (λ before session shown. ⊤) (λ _. tt)
-    (λ _ _ _ _ h. h) (λ _ _ _ _. tt) (stage_of old) (stage_of new) number line answer h
 
 pub returns-in_err-loopback-clause-ends : goal.returns-in_err-loopback-clause-ends
 returns-in_err-loopback-clause-ends g c =
     let p = err_from_is_err_and c.from_residual.result c.from_residual.ensures.1 in
     rw (p.1, p.2) (LoopEnds-none _ _ _ c.in_err-loopback.ensures.fault)
 
-pub returns-in_err-run_lines-clause-ends : goal.returns-in_err-run_lines-clause-ends
-returns-in_err-run_lines-clause-ends g c =
-    let p =
-    err_from_is_err_and c.from_residual-in_err-run_lines.result
-    c.from_residual-in_err-run_lines.ensures.1 in
-    let run = c.run_lines.ensures in
-    let ran =
-    loop_ran _ see c.new-2.result _ _ _ _ c.run_lines.result (ap (λ s.
-    stage tt s.clients) c.new-2.ensures) (λ old new number line answer h.
-    as_seen old new number line answer h) run.done run.read run.stopped run.limits in
-    rw (p.1, p.2) (rw c.in_err-run_lines.was at ran)
-
-pub returns-clause-ends : goal.returns-clause-ends
-returns-clause-ends g c =
-    let run = c.run_lines.ensures in
-    let ran =
-    loop_ran _ see c.new-2.result _ _ _ _ c.run_lines.result (ap (λ s.
-    stage tt s.clients) c.new-2.ensures) (λ old new number line answer h.
-    as_seen old new number line answer h) run.done run.read run.stopped run.limits in
-    rw c.in_ok-run_lines.was at ran
-
-pub returns-in_err-run_lines-clause-bad_limit : goal.returns-in_err-run_lines-clause-bad_limit
-returns-in_err-run_lines-clause-bad_limit g c =
-    let p =
-    err_from_is_err_and c.from_residual-in_err-run_lines.result
-    c.from_residual-in_err-run_lines.ensures.1 in
-    limits_kept _ _ _ _ _ (rw c.config_of.ensures at c.in_ok-loopback.ensures.bad_limit) (λ e.
-    c.in_err-run_lines.ensures.limits (cc))
-
 pub returns-clause-bad_limit : goal.returns-clause-bad_limit
 returns-clause-bad_limit g c =
-    limits_kept _ _ _ _ _ (rw c.config_of.ensures at c.in_ok-loopback.ensures.bad_limit) (λ e. cc)
+    limits_kept _ _ _ _ _ (rw c.config_of.ensures at c.in_ok-loopback.ensures.bad_limit)
+    (never_ends c.answer_lines.result _ c.answer_lines.ensures.limits)

@@ -1,7 +1,7 @@
 -- The output is a prefix of both lines: a part of the first, or all of it and a part of the second.
 use Rattle.std.proofs.lemmas.Result.{err_from_is_err_and}
 use Rattle.relay_server.specs.Printed.{listening_text, turns_text}
-use Rattle.relay_server.proofs.ServeLemmas.{part_front, then_all, then_part}
+use Rattle.relay_server.proofs.ServeLemmas.{headline_after, headline_begun, part_front, then_all, then_part}
 use Rattle.relay_server.proofs.serve.host.Goals as goal
 
 pub returns-in_err-tell-clause-stopped : goal.returns-in_err-tell-clause-stopped
@@ -18,3 +18,9 @@ pub returns-clause-stopped : goal.returns-clause-stopped
 returns-clause-stopped g c =
     then_part c.tell-2.result _ _ _ (listening_text _) (turns_text c.args.rounds)
     c.in_ok-tell.ensures.ok c.tell-2.ensures.err
+
+pub returns-in_err-tell-clause-headline : goal.returns-in_err-tell-clause-headline
+returns-in_err-tell-clause-headline g c = headline_begun _ c.requires.begins
+
+pub returns-clause-headline : goal.returns-clause-headline
+returns-clause-headline g c = headline_after _ c.requires.begins c.run.ensures.rounds

@@ -35,7 +35,7 @@ pub returns-clause-ends : goal.returns-clause-ends
 returns-clause-ends g c =
     let host = c.host_administered.ensures in
     ends_stopped c.args.options.admin c.in-Some.admin c.args.options.rounds _
-    c.host_administered.result _ _ c.in-Some.is host.done host.stopped host.uncut host.fault
+    c.host_administered.result _ _ _ c.in-Some.is host.done host.stopped host.uncut host.fault
 
 pub returns-in_default-clause-limits : goal.returns-in_default-clause-limits
 returns-in_default-clause-limits g c = never_limited c.host.result c.host.ensures.fault
