@@ -16,7 +16,7 @@ hub_text m = concat
     ∷ gauge (codes "relay_sessions") (codes "Sessions that are open.") m.sessions
     ∷ gauge (codes "relay_sessions_limit") (codes "Sessions that may be open.") m.max_sessions
     ∷ counter (codes "relay_edits_total")
-    (codes "Edits accepted, the sum of the revisions of all rooms.") m.edits
+    (codes "Edits accepted, those of wills among them.") m.edits
     ∷ counter (codes "relay_wills_total") (codes "Wills of closed sessions that were done.") m.wills
     ∷ [])
 

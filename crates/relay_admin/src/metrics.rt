@@ -16,8 +16,7 @@ pub struct Metrics<'a> {
     pub max_sessions: u64,
     pub connections: u64,
     pub max_connections: u64,
-    /// The sum of the rooms' revisions. It never falls, since only a room at revision 0 gives its
-    /// place to another.
+    /// How many edits were accepted, those of wills among them.
     pub edits: u64,
     /// How many wills of closed sessions were done.
     pub wills: u64,
@@ -151,7 +150,7 @@ fn write_hub(alloc: Global, text: &mut String, metrics: &Metrics<'_>) -> Result<
         Metric {
             name: "relay_edits_total",
             kind: Counter,
-            help: "Edits accepted, the sum of the revisions of all rooms.",
+            help: "Edits accepted, those of wills among them.",
             values: One(metrics.edits),
         },
         Metric {

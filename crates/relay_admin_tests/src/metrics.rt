@@ -65,7 +65,7 @@ relay_sessions 3
 # HELP relay_sessions_limit Sessions that may be open.
 # TYPE relay_sessions_limit gauge
 relay_sessions_limit 4
-# HELP relay_edits_total Edits accepted, the sum of the revisions of all rooms.
+# HELP relay_edits_total Edits accepted, those of wills among them.
 # TYPE relay_edits_total counter
 relay_edits_total 7
 # HELP relay_wills_total Wills of closed sessions that were done.

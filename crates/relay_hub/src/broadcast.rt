@@ -24,9 +24,9 @@ use relay_room::Room;
 use relay_translate::WatchIndex;
 use std::alloc::{AllocError, Global};
 
-/// Notifies the watchers of the newest edit, within the hub's bounds, and writes down whom it told.
-/// Then the room drops the oldest changes that may not be kept. Returns how many outboxes folded
-/// because memory ran out.
+/// Notifies the watchers of the newest edit, within the hub's bounds, counts the edit, and writes
+/// down whom it told. Then the room drops the oldest changes that may not be kept. Returns how many
+/// outboxes folded because memory ran out.
 pub fn broadcast_and_trim(
     alloc: Global,
     config: HubConfig,
@@ -49,6 +49,7 @@ pub fn broadcast_and_trim(
     let mut cache = UpdateCache::new(alloc, config.telling_weight);
     let short = broadcast(alloc, room, watches, sessions, &mut cache, report);
     report.cost.add(cache.cost.total());
+    report.edits = report.edits.saturating_add(1);
     room.trim(config.history_weight);
     short
 }

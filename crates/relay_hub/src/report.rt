@@ -3,10 +3,13 @@ use crate::cost_meter::CostMeter;
 use crate::told::Told;
 use std::alloc::Global;
 
-/// Whom the last text or will told something, and what all of them cost.
+/// Whom the last text or will told something, how many edits were accepted, and what all texts and
+/// wills cost.
 #[derive(Drop)]
 pub struct Report {
     pub told: Told,
+    /// How many edits were accepted so far, those of wills among them.
+    pub edits: u64,
     /// The cost of all texts and wills so far.
     pub cost: CostMeter,
 }
@@ -16,6 +19,7 @@ impl Report {
     pub fn new(alloc: Global) -> Report {
         Report {
             told: Told::nobody(alloc),
+            edits: 0,
             cost: CostMeter::new(),
         }
     }

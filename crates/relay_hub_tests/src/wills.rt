@@ -50,6 +50,7 @@ close 6 => Ok(())
 do-will => Ok(Some(0))
 has-wills => false
 truth 2 => 3 [[9]]
+edits => 3
 
 # One that is refused when it is read leaves the one before.
 begin a => Ok(Opening { session: 7, rev: 3 })
@@ -76,6 +77,12 @@ begin a => Err(SessionsFull)
 close 2 => Ok(())
 do-will => Ok(Some(0))
 begin b => Ok(Opening { session: 3, rev: 2 })
+
+# That a room begins above revision 0 is no edit, nor is that one is forgotten.
+edits => 1
+close 3 => Ok(())
+forget b => Ok(3)
+edits => 1
 
 # A room in which nobody is can be forgotten: it is null at the next revision, and remembers nothing.
 new rooms=1

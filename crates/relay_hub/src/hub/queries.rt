@@ -32,6 +32,12 @@ impl Hub {
         &self.counts
     }
 
+    /// How many edits its rooms accepted since it was made, those of wills among them. No clause
+    /// speaks of it. Allocates nothing.
+    pub fn edits(&self) -> u64 {
+        self.report.edits
+    }
+
     /// What its texts, wills and draws cost since it was made: an estimate in microseconds on the
     /// machine of docs/PERFORMANCE.md, within a factor of about two, counted where the work is
     /// done. No clause speaks of it. Allocates nothing.
