@@ -8,8 +8,8 @@ use crate::server_options::with_server_options;
 use clap::Command;
 use std::alloc::{AllocError, Global};
 
-/// The version of the program, and the version line of the kit that proves it (`rt version`).
-const VERSION: &str = "0.2.0\nrattle-kit-13f logic dac8208d650f15bf";
+/// The version of the program, and the logic in which it is proved, as `rt version` names it.
+const VERSION: &str = "0.2.0\nRattle logic dac8208d650f15bf";
 
 const ABOUT: &str =
     "Keeps shared JSON documents in rooms, and tells each watcher what changed in the parts that it watches";

@@ -98,8 +98,8 @@ relay serve --port 0 --log 1 => misuse
 relay loop --log => misuse
 
 # Says the version of the program, and of the kit that proves it (`rt version`).
-relay --version => relay 0.2.0\nrattle-kit-13f logic dac8208d650f15bf\n
-relay -V => relay 0.2.0\nrattle-kit-13f logic dac8208d650f15bf\n
+relay --version => relay 0.2.0\nRattle logic dac8208d650f15bf\n
+relay -V => relay 0.2.0\nRattle logic dac8208d650f15bf\n
 
 # Explains each job: its help has this part.
 finds relay --help: relay < examples/first.script => true
