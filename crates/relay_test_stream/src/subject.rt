@@ -1,5 +1,7 @@
 //! What plays rows.
 use crate::row::Row;
+use crate::wrong_rows::{WrongRow, WrongRows};
+use std::alloc::AllocGlobal;
 
 /// What the acts of rows are done to. `R` is the runtime that they need.
 pub trait Subject<R> {
@@ -8,39 +10,41 @@ pub trait Subject<R> {
     fn act(&mut self, rt: &R, act: &str) -> Option<String>;
 }
 
-/// A row that came to something else than it has to.
-#[derive(Debug, Drop)]
-pub struct WrongRow<'a> {
-    /// The row.
-    pub row: Row<'a>,
-    /// What came of it, if that was told.
-    pub came: Option<String>,
-}
-
-/// Plays the rows of a text, one after the other, up to the first that comes to something else than
-/// it has to.
-pub fn play<'a, R, S: Subject<R>>(
+/// Plays the rows of a text, one after the other, and names each that comes to something else than
+/// it has to. What one does stays for the next, so a row may be wrong because of one before it.
+pub fn play<'a, R: AllocGlobal, S: Subject<R>>(
     rt: &R,
     subject: &mut S,
     rows: &'a str,
-) -> Result<(), WrongRow<'a>> {
+) -> Result<(), WrongRows<'a>> {
+    let mut wrong = WrongRows::none(rt.alloc());
+    let mut heading = "";
+    let mut number = 0u64;
     for line in rows.lines() {
+        number = number.saturating_add(1);
+        if line.starts_with('#') {
+            heading = line;
+        }
         if let Some(row) = Row::of(line) {
-            play_row(rt, subject, row)?;
+            if let Err(came) = play_row(rt, subject, row) {
+                wrong.add(WrongRow {
+                    line: number,
+                    heading,
+                    row,
+                    came,
+                });
+            }
         }
     }
-    Ok(())
+    wrong.or_none()
 }
 
-fn play_row<'a, R, S: Subject<R>>(
-    rt: &R,
-    subject: &mut S,
-    row: Row<'a>,
-) -> Result<(), WrongRow<'a>> {
+/// Plays a row. The error is what came of it that had not to, if anything was told.
+fn play_row<R, S: Subject<R>>(rt: &R, subject: &mut S, row: Row<'_>) -> Result<(), Option<String>> {
     for _ in 0..row.times {
         match subject.act(rt, row.act) {
             Some(came) if came.as_str() == row.wanted => {}
-            came => return Err(WrongRow { row, came }),
+            came => return Err(came),
         }
     }
     Ok(())
