@@ -1,8 +1,9 @@
 use crate::pointer;
 use crate::shared::{nothing, part_text, shown, taken_text};
 use crate::stage::{Stage, play_anew};
+use relay_limits::MAX_COUNT;
 use relay_test_stream::cut;
-use relay_tree::{MAX_COUNT, Members, Node, Tree, begin_text, end_text, insert_member, read};
+use relay_tree::{Members, Node, Tree, begin_text, end_text, insert_member, read};
 use std::alloc::Global;
 
 const ROWS: &str = r#"

@@ -26,7 +26,7 @@ use Rattle.relay_link.specs.declared.stage.Stage.TheVariants as stage
 use Rattle.relay_link.specs.declared.state.State.{State as Link}
 use Rattle.relay_link.specs.declared.state.State.TheVariants.{Head, Replying, Open, Closing, Gone}
 use Rattle.relay_link.specs.declared.visit.Visit.{Visit}
-use Rattle.relay_proto.specs.declared.access.Access.{Access}
+use Rattle.relay_access.specs.declared.access.Access.{Access}
 use Rattle.relay_event_loop.specs.Advances.{Links, IsNew, links_of, Advances, stays, turns, adds, removes, visits, sheds, acts, IsOfHouse}
 use Rattle.relay_link.proofs.Sending.{Framed, sending_by, gone_framed, gone_replies}
 use Rattle.relay_event_loop.specs.declared.connection.Connection.{Connection}

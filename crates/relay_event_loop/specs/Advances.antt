@@ -18,7 +18,7 @@ use Rattle.relay_link.specs.Visits.{Visits}
 use Rattle.relay_link.specs.declared.state.State.{State as Link}
 use Rattle.relay_link.specs.declared.state.State.TheVariants.{Head}
 use Rattle.relay_link.specs.declared.visit.Visit.{Visit}
-use Rattle.relay_proto.specs.declared.access.Access.{Access}
+use Rattle.relay_access.specs.declared.access.Access.{Access}
 use Rattle.relay_event_loop.specs.Connections.{connections_of, limit_of, made_by, made_after}
 use Rattle.relay_event_loop.specs.Ready.{left_of, contents_of}
 use Rattle.relay_link.specs.Sends.{Sends}

@@ -3,7 +3,7 @@ use Rattle.std.specs.Prelude.{ℕ, List}
 use Rattle.relay_hub.specs.State.{State}
 use Rattle.relay_link.specs.Visits.{Visits}
 use Rattle.relay_link.specs.declared.visit.Visit.{Visit}
-use Rattle.relay_proto.specs.declared.access.Access.{Access}
+use Rattle.relay_access.specs.declared.access.Access.{Access}
 
 -- the visit was made of this hub: a room of it, with an access and a text to say
 abbrev pub Visited : List ℕ → Access → List ℕ → State → Visit → Type 0

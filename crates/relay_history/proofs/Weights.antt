@@ -4,9 +4,9 @@ use Rattle.std.specs.List.{sum_by}
 use Rattle.std.proofs.lemmas.List.{length-take}
 use Rattle.std.proofs.lemmas.List.Sums.{sum_by-cons}
 use Rattle.circular_buffer.specs.Buffer.{buffer}
-use Rattle.relay_tree.specs.declared.count.TheConstants.{MAX_COUNT}
+use Rattle.relay_limits.specs.declared.TheConstants.{MAX_COUNT, MAX_REVISIONS}
 use Rattle.relay_patch.specs.declared.change.Change.{Change}
-use Rattle.relay_history.specs.declared.history.TheConstants.{MAX_REVISIONS, LAST_REVISION}
+use Rattle.relay_history.specs.declared.history.TheConstants.{LAST_REVISION}
 use Rattle.relay_history.specs.Trimmed.{revision_weight}
 use Rattle.relay_history.specs.declared.history.History.TheInside.{Inside}
 use Rattle.relay_history.specs.Representation.{past_of, IsKept, weight_of}

@@ -1,7 +1,7 @@
 -- A history trimmed to the newest revisions that together weigh no more than a budget.
 use Rattle.std.specs.Prelude.{ℕ, ◌+◌, ◌*◌, min, length, List, [], ◌∷◌, Some, None}
 use Rattle.std.specs.List.{sum_by}
-use Rattle.relay_tree.specs.declared.count.TheConstants.{MAX_COUNT}
+use Rattle.relay_limits.specs.declared.TheConstants.{MAX_COUNT}
 use Rattle.relay_tree.specs.declared.budget.Budget.{Budget}
 use Rattle.relay_tree.specs.Budget.{paid}
 use Rattle.relay_patch.specs.declared.change.Change.{Change}

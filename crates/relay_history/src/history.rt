@@ -6,13 +6,11 @@ use crate::fault::HistoryFault;
 use crate::revision::{ReservedRevision, Revision, weight_of};
 use crate::since::Since;
 use circular_buffer::HeapCircularBuffer;
+use relay_limits::{MAX_COUNT, MAX_REVISIONS};
 use relay_patch::Change;
-use relay_tree::{Budget, MAX_COUNT};
+use relay_tree::Budget;
 use std::alloc::Global;
 use std::marker::Model;
-
-/// The most revisions that a history may be asked to hold.
-pub const MAX_REVISIONS: u64 = 1_024;
 
 /// The last revision that a document can have, `2^53 - 1`.
 pub const LAST_REVISION: u64 = MAX_COUNT;

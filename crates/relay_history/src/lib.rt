@@ -13,6 +13,6 @@ mod revision;
 mod since;
 
 pub use fault::HistoryFault;
-pub use history::{History, LAST_REVISION, MAX_REVISIONS};
+pub use history::{History, LAST_REVISION};
 pub use revision::{CHANGE_WEIGHT, ReservedRevision};
 pub use since::Since;

@@ -4,8 +4,9 @@ ghost use Rattle.std.specs.Prelude.{◌≡◌};
 ghost use Rattle.relay_history.specs.Trimmed.{revision_weight};
 ghost use Rattle.relay_history.specs.Representation.{weight_of};
 
+use relay_limits::MAX_COUNT;
 use relay_patch::{Change, pay_changes};
-use relay_tree::{Budget, MAX_COUNT};
+use relay_tree::Budget;
 use std::alloc::{AllocError, Global};
 use std::marker::Model;
 

@@ -5,7 +5,7 @@ use Rattle.relay_patch.specs.declared.op.Op.{Op}
 use Rattle.relay_pointer.specs.Weight.{path_weight}
 use Rattle.relay_proto.proofs.Counts.{IsRefusal, request_counts, refusal_counts}
 use Rattle.relay_proto.specs.Request.{request_of_text}
-use Rattle.relay_proto.specs.declared.access.Access.{Access}
+use Rattle.relay_access.specs.declared.access.Access.{Access}
 use Rattle.relay_proto.specs.declared.refusal.Refusal.{Refusal}
 use Rattle.relay_proto.specs.declared.request.Request.{Request}
 use Rattle.relay_proto.specs.declared.request.Request.TheVariants.{Edit, Will, Watch, Resume, Unwatch}

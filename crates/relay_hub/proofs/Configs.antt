@@ -1,12 +1,9 @@
 -- The ranges of a configuration: a number is out of its range, or the configuration is one.
 use Rattle.std.proofs.Common.{◌<◌, ◌⊎◌, inl, inr, arith}
-use Rattle.relay_history.specs.declared.history.TheConstants.{MAX_REVISIONS}
-use Rattle.relay_outbox.specs.declared.outbox.TheConstants.{MAX_PATCHES}
-use Rattle.relay_tree.specs.declared.count.TheConstants.{MAX_COUNT}
+use Rattle.relay_limits.specs.declared.TheConstants.{MAX_COUNT, MAX_REVISIONS, MAX_ROOMS, MAX_SESSIONS, MAX_WAITING_PATCHES}
 use Rattle.relay_hub.specs.Queries.{BadLimits}
 use Rattle.relay_hub.specs.State.{IsConfig}
 use Rattle.relay_hub.specs.declared.config.HubConfig.{HubConfig}
-use Rattle.relay_hub.specs.declared.config.TheConstants.{MAX_ROOMS, MAX_SESSIONS}
 
 pub bad_counts : (config : HubConfig) → (MAX_COUNT < config.epoch) ⊎ (MAX_COUNT < config.first)
     → BadLimits config
@@ -19,7 +16,7 @@ bad_history config (inl h) = inr (inr (inl h))
 bad_history config (inr h) = inr (inr (inr (inl h)))
 
 pub bad_waiting : (config : HubConfig)
-    → (config.max_waiting_patches < 1) ⊎ (MAX_PATCHES < config.max_waiting_patches)
+    → (config.max_waiting_patches < 1) ⊎ (MAX_WAITING_PATCHES < config.max_waiting_patches)
     → BadLimits config
 bad_waiting config (inl h) = inr (inr (inr (inr (inl h))))
 bad_waiting config (inr h) = inr (inr (inr (inr (inr (inl h)))))

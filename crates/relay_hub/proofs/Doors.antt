@@ -5,16 +5,15 @@ use Rattle.std.proofs.lemmas.List.{length-replicate, length-set, map-append}
 use Rattle.std.proofs.lemmas.Option.{slice_get_within}
 use Rattle.relay_history.specs.History.{changes_since}
 use Rattle.relay_history.proofs.Growing.{changes_since-newest}
-use Rattle.relay_history.specs.declared.history.TheConstants.{MAX_REVISIONS}
+use Rattle.relay_limits.specs.declared.TheConstants.{MAX_COUNT, MAX_REVISIONS}
 use Rattle.relay_patch.specs.Change.{Leads}
-use Rattle.relay_proto.specs.RoomName.{is_room_name}
+use Rattle.relay_access.specs.RoomName.{is_room_name}
 use Rattle.relay_proto.specs.Written.{IsCount}
-use Rattle.relay_proto.specs.declared.access.Access.{Access}
+use Rattle.relay_access.specs.declared.access.Access.{Access}
 use Rattle.relay_tree.specs.declared.budget.Budget.TheVariants.{Unbounded}
 use Rattle.relay_room.specs.Room.{begun, revision}
 use Rattle.relay_room.proofs.Rooms.{begun_is_room}
 use Rattle.relay_tree.specs.Document.{Document, null}
-use Rattle.relay_tree.specs.declared.count.TheConstants.{MAX_COUNT}
 use Rattle.relay_hub.specs.Log.{Log, Entry, entry, stay, home, is_opened, documents, reaching, beginning, watching}
 use Rattle.relay_hub.specs.Session.{newcomer}
 use Rattle.relay_hub.specs.Stands.{RoomStands, OutboxStands, RoomSessionsStand, HomeStands, MayBegin, named_will, StandsFor}

@@ -8,8 +8,8 @@ use Rattle.relay_patch.specs.Change.{all_changes}
 use Rattle.relay_patch.specs.declared.op.Op.{Op}
 use Rattle.relay_view.specs.View.{View}
 use Rattle.relay_proto.specs.Request.{request_of_text}
-use Rattle.relay_proto.specs.RoomName.{is_room_name}
-use Rattle.relay_proto.specs.declared.access.Access.{Access}
+use Rattle.relay_access.specs.RoomName.{is_room_name}
+use Rattle.relay_access.specs.declared.access.Access.{Access}
 use Rattle.relay_proto.specs.declared.refusal.Refusal.{Refusal}
 use Rattle.relay_proto.specs.declared.reply.Reply.TheVariants.{Done}
 use Rattle.relay_proto.specs.declared.request.Request.{Request}
@@ -20,7 +20,7 @@ use Rattle.relay_room.specs.Room.{begun, revision}
 use Rattle.relay_room.specs.declared.catch_up.CatchUp.TheVariants.{Snapshot}
 use Rattle.relay_room.specs.declared.fault.EditFault.{EditFault}
 use Rattle.relay_tree.specs.Document.{Document, null}
-use Rattle.relay_tree.specs.declared.count.TheConstants.{MAX_COUNT}
+use Rattle.relay_limits.specs.declared.TheConstants.{MAX_COUNT}
 use Rattle.relay_hub.specs.Admitted.{admitted}
 use Rattle.relay_hub.specs.Refusal.{refused, future_refusal}
 use Rattle.relay_hub.specs.Session.{Session, replied, newcomer, leaves_will, watches, unwatches, resumes, drawn}

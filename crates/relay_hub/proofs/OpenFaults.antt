@@ -8,11 +8,11 @@ use Rattle.std.proofs.lemmas.Bool.Decides.{nat_tests}
 use Rattle.std.proofs.lemmas.List.{length-map}
 use Rattle.std.proofs.lemmas.Map.Entries.{length-keys_of}
 use Rattle.indexmap.proofs.MapLemmas.{Missing-position}
-use Rattle.relay_proto.specs.RoomName.{is_room_name}
-use Rattle.relay_proto.specs.declared.access.Access.{Access}
+use Rattle.relay_access.specs.RoomName.{is_room_name}
+use Rattle.relay_access.specs.declared.access.Access.{Access}
 use Rattle.relay_room.specs.Room.{begun}
 use Rattle.relay_tree.specs.Document.{null}
-use Rattle.relay_tree.specs.declared.count.TheConstants.{MAX_COUNT}
+use Rattle.relay_limits.specs.declared.TheConstants.{MAX_COUNT}
 use Rattle.relay_hub.specs.Representation.{named, rooms_of}
 use Rattle.relay_hub.specs.Session.{newcomer}
 use Rattle.relay_hub.specs.State.{RoomSessions, room_sessions, State, index_named, is_crowded, vacant_in}

@@ -7,10 +7,10 @@ use Rattle.std.proofs.lemmas.Option.{get_or_from_slice_get}
 use Rattle.std.proofs.lemmas.Slice.Eq.{bytes_eq-Decides}
 use Rattle.relay_patch.specs.declared.op.Op.{Op}
 use Rattle.relay_proto.specs.Request.{request_of_text}
-use Rattle.relay_proto.specs.declared.access.Access.{Access}
+use Rattle.relay_access.specs.declared.access.Access.{Access}
 use Rattle.relay_room.specs.Room.{revision}
 use Rattle.relay_tree.specs.Document.{Document, null}
-use Rattle.relay_tree.specs.declared.count.TheConstants.{MAX_COUNT}
+use Rattle.relay_limits.specs.declared.TheConstants.{MAX_COUNT}
 use Rattle.relay_hub.specs.Admitted.{permitted}
 use Rattle.relay_hub.specs.Log.{Log, Stay, Bequest, stay, entry, home, left, document_left, documents, documents_after, document_added, extended, requested, reaching, beginning, beginning_after}
 use Rattle.relay_hub.specs.Stands.{MayBegin}

@@ -3,7 +3,7 @@ use Rattle.std.proofs.Common.{◌≡◌, ℕ, ◌<◌, true, List, Some, Result,
 use Rattle.std.proofs.lemmas.Bool.Decides.{nat_tests}
 use Rattle.relay_view.specs.View.{View}
 use Rattle.relay_proto.specs.Request.{request_of_text}
-use Rattle.relay_proto.specs.declared.access.Access.{Access}
+use Rattle.relay_access.specs.declared.access.Access.{Access}
 use Rattle.relay_proto.specs.declared.refusal.Refusal.{Refusal}
 use Rattle.relay_proto.specs.declared.request.Request.{Request}
 use Rattle.relay_room.specs.CatchUp.{caught_up_within, LeadsOn, Fits}

@@ -2,8 +2,8 @@
 use Rattle.std.specs.Prelude.{ℕ, ◌+◌, Bool, true, false, if◌then◌else◌, Option, Some, None, [], ◌∷◌, Result, Ok, Err}
 use Rattle.std.specs.Option.{option_map_or}
 use Rattle.relay_pointer.specs.Weight.{path_weight}
-use Rattle.relay_proto.specs.declared.access.Access.{Access}
-use Rattle.relay_proto.specs.declared.access.Access.TheVariants.{ReadWrite, ReadOnly}
+use Rattle.relay_access.specs.declared.access.Access.{Access}
+use Rattle.relay_access.specs.declared.access.Access.TheVariants.{ReadWrite, ReadOnly}
 use Rattle.relay_proto.specs.declared.refusal.Refusal.{Refusal}
 use Rattle.relay_proto.specs.declared.request.Request.{Request}
 use Rattle.relay_proto.specs.declared.request.Request.TheVariants.{Edit, Will, Watch, Resume}

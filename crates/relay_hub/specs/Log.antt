@@ -5,7 +5,7 @@ use Rattle.std.specs.Prelude.{ℕ, ◌+◌, ◌-◌, ◌==◌, Bool, false, ◌|
 use Rattle.std.specs.Result.{result_ok}
 use Rattle.relay_tree.specs.Document.{Document, null}
 use Rattle.relay_patch.specs.declared.op.Op.{Op}
-use Rattle.relay_proto.specs.declared.access.Access.{Access}
+use Rattle.relay_access.specs.declared.access.Access.{Access}
 use Rattle.relay_proto.specs.Client.{Client, nothing, holds}
 use Rattle.relay_proto.specs.MessageRead.{message_of_text}
 use Rattle.relay_proto.specs.Request.{request_of_text}

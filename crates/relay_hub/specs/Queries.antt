@@ -1,7 +1,7 @@
 -- What a hub returns for a session, when no hub can be made, and what a refused edit changes.
 use Rattle.std.specs.Prelude.{ℕ, ◌≡◌, ◌≢◌, map, ◌<◌, ◌⊎◌, Bool, false, length, nat_lt, Option, Some, None, option_map, option_and_then, List, Ok, Err}
-use Rattle.relay_history.specs.declared.history.TheConstants.{MAX_REVISIONS}
-use Rattle.relay_outbox.specs.declared.outbox.TheConstants.{MAX_REPLIES, MAX_PATCHES}
+use Rattle.relay_limits.specs.declared.TheConstants.{MAX_COUNT, MAX_REVISIONS, MAX_ROOMS, MAX_SESSIONS, MAX_WAITING_PATCHES}
+use Rattle.relay_outbox.specs.declared.outbox.TheConstants.{MAX_REPLIES}
 use Rattle.relay_patch.specs.declared.op.Op.{Op}
 use Rattle.relay_proto.specs.Request.{request_of_text}
 use Rattle.relay_proto.specs.declared.refusal.Refusal.{Refusal}
@@ -11,10 +11,8 @@ use Rattle.relay_room.specs.Edit.{edited}
 use Rattle.relay_room.specs.Room.{State as Room, revision}
 use Rattle.relay_room.specs.declared.fault.EditFault.{EditFault}
 use Rattle.relay_tree.specs.Document.{Document}
-use Rattle.relay_tree.specs.declared.count.TheConstants.{MAX_COUNT}
 use Rattle.relay_view.specs.View.{view}
 use Rattle.relay_hub.specs.declared.config.HubConfig.{HubConfig}
-use Rattle.relay_hub.specs.declared.config.TheConstants.{MAX_ROOMS, MAX_SESSIONS}
 use Rattle.relay_hub.specs.Admitted.{admitted}
 use Rattle.relay_hub.specs.Refusal.{refused, edit_refusal}
 use Rattle.relay_hub.specs.Session.{Session, replied}
@@ -25,7 +23,7 @@ abbrev pub BadLimits : HubConfig → Type 0
 BadLimits config =
     (MAX_COUNT < config.epoch) ⊎ (MAX_COUNT < config.first)
     ⊎ (config.history < 1) ⊎ (MAX_REVISIONS < config.history) ⊎ (config.max_waiting_patches < 1)
-    ⊎ (MAX_PATCHES < config.max_waiting_patches)
+    ⊎ (MAX_WAITING_PATCHES < config.max_waiting_patches)
     ⊎ (config.rooms < 1) ⊎ (MAX_ROOMS < config.rooms) ⊎ (config.sessions < 1)
     ⊎ (MAX_SESSIONS < config.sessions)
 

@@ -4,8 +4,8 @@ use Rattle.std.specs.Coded.{Coded, code_by, coded×, coded_bool, coded_ℕ, code
 use Rattle.relay_outbox.specs.Outbox.{Contents, Foremost, reply, patch, snapshot, nothing, empty, with_reply, with_patch, folded, cleared, front_of, without_front, contents_code}
 use Rattle.relay_patch.specs.Weight.{ops_weight}
 use Rattle.relay_patch.specs.declared.op.Op.{Op}
-use Rattle.relay_proto.specs.declared.access.Access.{Access}
-use Rattle.relay_proto.specs.declared.access.Access.TheVariants.{ReadWrite, ReadOnly}
+use Rattle.relay_access.specs.declared.access.Access.{Access}
+use Rattle.relay_access.specs.declared.access.Access.TheVariants.{ReadWrite, ReadOnly}
 use Rattle.relay_proto.specs.declared.message.Message.{Message}
 use Rattle.relay_proto.specs.declared.message.Message.TheVariants as message
 use Rattle.relay_proto.specs.declared.reply.ResumeOutcome.TheVariants as how

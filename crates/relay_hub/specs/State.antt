@@ -4,17 +4,14 @@ use Rattle.std.specs.Coded.{Coded, code_by, coded×, coded_list, coded_ℕ}
 use Rattle.std.specs.List.{AllByRecursion}
 use Rattle.std.specs.List.Sorted.{IsStrictlyIncreasing}
 use Rattle.std.specs.Map.{lookup}
-use Rattle.relay_history.specs.declared.history.TheConstants.{MAX_REVISIONS}
-use Rattle.relay_outbox.specs.declared.outbox.TheConstants.{MAX_PATCHES}
+use Rattle.relay_limits.specs.declared.TheConstants.{DEFAULT_ROOMS, DEFAULT_SESSIONS, MAX_COUNT, MAX_REVISIONS, MAX_ROOMS, MAX_SESSIONS, MAX_WAITING_PATCHES}
 use Rattle.relay_patch.specs.declared.change.Change.{Change}
 use Rattle.relay_patch.specs.declared.op.Op.{Op}
 use Rattle.relay_room.specs.Room.{State as Room, state_code, revision}
 use Rattle.relay_tree.specs.Document.{Document, null}
 use Rattle.relay_tree.specs.declared.budget.Budget.TheVariants.{Unbounded}
-use Rattle.relay_tree.specs.declared.count.TheConstants.{MAX_COUNT}
 use Rattle.relay_hub.specs.Config.{config_code}
 use Rattle.relay_hub.specs.declared.config.HubConfig.{HubConfig}
-use Rattle.relay_hub.specs.declared.config.TheConstants.{DEFAULT_ROOMS, DEFAULT_SESSIONS, MAX_ROOMS, MAX_SESSIONS}
 use Rattle.relay_hub.specs.declared.will.Will.{Will}
 use Rattle.relay_hub.specs.Session.{Session}
 
@@ -51,7 +48,7 @@ pub record IsConfig (config : HubConfig) : Type 0 where
   pub counts : (config.epoch ≤ MAX_COUNT) × (config.first ≤ MAX_COUNT)
   pub history : (1 ≤ config.history) × (config.history ≤ MAX_REVISIONS)
   pub max_waiting_patches : (1 ≤ config.max_waiting_patches)
-      × (config.max_waiting_patches ≤ MAX_PATCHES)
+      × (config.max_waiting_patches ≤ MAX_WAITING_PATCHES)
 
 -- the configuration, the number of the next session, the least revision at which a new room begins,
 -- the rooms by name, each at its index (a new one comes last, or replaces one that is evictable),

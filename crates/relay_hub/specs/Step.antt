@@ -9,8 +9,8 @@ use Rattle.relay_patch.specs.declared.change.Change.{Change}
 use Rattle.relay_patch.specs.declared.op.Op.{Op}
 use Rattle.relay_view.specs.View.{View}
 use Rattle.relay_proto.specs.Request.{request_of_text}
-use Rattle.relay_proto.specs.RoomName.{is_room_name}
-use Rattle.relay_proto.specs.declared.access.Access.{Access}
+use Rattle.relay_access.specs.RoomName.{is_room_name}
+use Rattle.relay_access.specs.declared.access.Access.{Access}
 use Rattle.relay_proto.specs.declared.refusal.Refusal.{Refusal}
 use Rattle.relay_proto.specs.declared.reply.Reply.{Reply}
 use Rattle.relay_proto.specs.declared.reply.Reply.TheVariants.{Done}
@@ -25,7 +25,7 @@ use Rattle.relay_room.specs.declared.fault.EditFault.{EditFault}
 use Rattle.relay_translate.specs.Translate.{local, afforded}
 use Rattle.relay_tree.specs.Document.{Document, null}
 use Rattle.relay_tree.specs.declared.budget.Budget.{Budget}
-use Rattle.relay_tree.specs.declared.count.TheConstants.{MAX_COUNT}
+use Rattle.relay_limits.specs.declared.TheConstants.{MAX_COUNT}
 use Rattle.relay_hub.specs.declared.config.HubConfig.{HubConfig}
 use Rattle.relay_hub.specs.declared.event.Answer.{Answer}
 use Rattle.relay_hub.specs.declared.event.Answer.TheVariants.{Opened, NotOpened, Heard, Drawn, Closed, WillDone, NoWill, Forgotten, NotForgotten, NoSession}

@@ -5,7 +5,8 @@ ghost use Rattle.relay_proto.specs.declared.refusal.RequestFault.TheVariants.{Re
 ghost use Rattle.relay_hub.specs.Admitted.{admitted, affordable, permitted, unpaid_slot};
 ghost use Rattle.relay_hub.specs.Refusal.{refusal};
 
-use relay_proto::{Access, Refusal, Request, RequestFault, Word};
+use relay_access::Access;
+use relay_proto::{Refusal, Request, RequestFault, Word};
 use relay_tree::{Budget, Scratch};
 use relay_view::View;
 use std::alloc::Global;

@@ -1,27 +1,17 @@
 //! The configuration of a hub.
 ghost use Rattle.std.specs.Prelude.{◌≡◌, ◌≤◌, ◌<◌, ◌⊎◌, ◌↔◌, OnOk, IsErrOf};
 ghost use Rattle.std.specs.Bool.{MatchBool};
-ghost use Rattle.relay_tree.specs.declared.count.TheConstants.{MAX_COUNT};
+ghost use Rattle.relay_limits.specs.declared.TheConstants.{MAX_COUNT};
 ghost use Rattle.relay_hub.specs.Queries.{BadLimits};
 ghost use Rattle.relay_hub.specs.State.{IsConfig, config};
 ghost use Rattle.relay_hub.specs.declared.fault.HubNewFault.TheVariants.{BadLimit};
 
 use crate::fault::HubNewFault;
-use relay_history::MAX_REVISIONS;
-use relay_outbox::MAX_PATCHES;
-use relay_tree::{Budget, MAX_COUNT};
-
-/// The number of rooms that [`HubConfig::new`] allows.
-pub const DEFAULT_ROOMS: u64 = 64;
-
-/// The number of open sessions that [`HubConfig::new`] allows.
-pub const DEFAULT_SESSIONS: u64 = 256;
-
-/// The most rooms that a configuration may allow.
-pub const MAX_ROOMS: u64 = 65_536;
-
-/// The most open sessions that a configuration may allow.
-pub const MAX_SESSIONS: u64 = 65_536;
+use relay_limits::{
+    DEFAULT_ROOMS, DEFAULT_SESSIONS, MAX_COUNT, MAX_REVISIONS, MAX_ROOMS, MAX_SESSIONS,
+    MAX_WAITING_PATCHES,
+};
+use relay_tree::Budget;
 
 /// The configuration of a hub, which never changes.
 #[derive(Clone, Copy, Debug, PartialEq, Eq)]
@@ -80,7 +70,7 @@ impl HubConfig {
         if !is_in_range(self.history, MAX_REVISIONS) {
             return Err(HubNewFault::BadLimit);
         }
-        if !is_in_range(self.max_waiting_patches, MAX_PATCHES) {
+        if !is_in_range(self.max_waiting_patches, MAX_WAITING_PATCHES) {
             return Err(HubNewFault::BadLimit);
         }
         if !is_in_range(self.rooms, MAX_ROOMS) {

@@ -2,7 +2,7 @@
 ghost use Rattle.std.specs.Prelude.{◌≡◌, ◌≤◌, Some, None, [], ◌∷◌, ◌++◌, ◌<◌, IfOk, IfSome, OnOk, OnErr, length, position};
 ghost use Rattle.relay_room.specs.Room.{begun, revision};
 ghost use Rattle.relay_tree.specs.Document.{null};
-ghost use Rattle.relay_tree.specs.declared.count.TheConstants.{MAX_COUNT};
+ghost use Rattle.relay_limits.specs.declared.TheConstants.{MAX_COUNT};
 ghost use Rattle.relay_hub.specs.Call.{IsAbove, IsFresh};
 ghost use Rattle.relay_hub.specs.Representation.{rooms_of};
 ghost use Rattle.relay_hub.specs.Session.{newcomer};
@@ -14,7 +14,7 @@ use crate::room_sessions::RoomSessions;
 use crate::session::Session;
 use crate::will::Will;
 use indexmap::IndexMap;
-use relay_proto::Access;
+use relay_access::Access;
 use relay_room::{Room, RoomFault};
 use relay_tree::{Node, Tree};
 use std::alloc::{AllocError, Global};

@@ -1,7 +1,7 @@
 //! The events of a hub, and its answers.
 use crate::fault::{ForgetFault, OpenFault};
 use crate::text::Text;
-use relay_proto::Access;
+use relay_access::Access;
 
 /// One event: one call of the hub.
 #[derive(Drop)]

@@ -38,7 +38,7 @@ mod told;
 mod update;
 mod will;
 
-pub use config::{DEFAULT_ROOMS, DEFAULT_SESSIONS, HubConfig, MAX_ROOMS, MAX_SESSIONS};
+pub use config::HubConfig;
 pub use event::{Answer, Event, Heard, Opening};
 pub use fault::{ForgetFault, HubFault, HubNewFault, NoSession, OpenFault, RunFault};
 pub use hub::Hub;

@@ -15,10 +15,11 @@ use crate::shed::shed_sessions;
 use crate::snapshot_text::SnapshotText;
 use crate::told::Told;
 use crate::{cost, requests};
+use relay_limits::MAX_COUNT;
 use relay_patch::Patch;
 use relay_room::{Room, RoomFault};
 use relay_translate::WatchIndex;
-use relay_tree::{Budget, MAX_COUNT, Node, Scratch, Tree};
+use relay_tree::{Budget, Node, Scratch, Tree};
 use std::alloc::{AllocError, Global};
 use std::marker::Model;
 
@@ -53,7 +54,7 @@ impl Model for RoomSessions {
 
 impl RoomSessions {
     ghost use Rattle.std.specs.Prelude.{◌≡◌, ◌≢◌, ◌<◌, ◌≤◌, ◌+◌, true, [], ◌∷◌, Some, None, Ok, IfOk, IfErr, OnOk, OnErr, IsErrOf, IsSome, IsSomeAnd, length, option_map};
-    ghost use Rattle.relay_history.specs.declared.history.TheConstants.{MAX_REVISIONS};
+    ghost use Rattle.relay_limits.specs.declared.TheConstants.{MAX_REVISIONS};
     ghost use Rattle.relay_room.specs.Room.{begun, revision};
     ghost use Rattle.relay_tree.specs.Document.{null};
     ghost use Rattle.relay_hub.specs.Call.{receiving, drawing, ReceivesIf, WillServedIf, DrawsIf, HasSpace, IsAbove};

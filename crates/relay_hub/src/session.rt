@@ -7,9 +7,10 @@ use crate::shared_view::SharedView;
 use crate::snapshot_text::SnapshotText;
 use crate::update::Update;
 use crate::{cost, load};
+use relay_access::Access;
 use relay_outbox::{Front, Outbox, OutboxFault};
 use relay_patch::Patch;
-use relay_proto::{Access, Reply};
+use relay_proto::Reply;
 use relay_room::Room;
 use relay_tree::Budget;
 use std::alloc::{AllocError, Global};
@@ -67,7 +68,8 @@ impl Model for Session {
 
 impl Session {
     ghost use Rattle.std.specs.Prelude.{◌≡◌, ◌<◌, ◌≤◌, ℕ, nat_le, length, option_map, Ok, None, IfOk, OnOk, OnErr, IsSome, string_bytes};
-    ghost use Rattle.relay_outbox.specs.declared.outbox.TheConstants.{MAX_REPLIES, MAX_PATCHES};
+    ghost use Rattle.relay_outbox.specs.declared.outbox.TheConstants.{MAX_REPLIES};
+    ghost use Rattle.relay_limits.specs.declared.TheConstants.{MAX_WAITING_PATCHES};
     ghost use Rattle.relay_room.specs.declared.catch_up.CatchUp.{CatchUp};
     ghost use Rattle.relay_hub.specs.Load.{IsLoad};
     ghost use Rattle.relay_hub.specs.Update.{update_of, heard};
@@ -85,7 +87,7 @@ impl Session {
         number: u64,
     ) -> Result<Session, AllocError>
         requires some { 1 ≤ config.max_waiting_patches }
-        requires not_too_many { config.max_waiting_patches ≤ MAX_PATCHES }
+        requires not_too_many { config.max_waiting_patches ≤ MAX_WAITING_PATCHES }
         ensures { IfOk result (λ x. x ≡ newcomer config access rev number) }
     {
         let mut outbox = match Outbox::new(alloc, config.max_waiting_patches) {

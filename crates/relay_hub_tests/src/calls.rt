@@ -2,8 +2,8 @@
 //! room.
 use crate::shared::{Came, at_revision, number, owned, repeated, words};
 use crate::weights::WATCHING;
+use relay_access::Access;
 use relay_hub::{Hub, HubConfig, HubFault, MessageCounts, OpenFault};
-use relay_proto::Access;
 use relay_test_stream::{Subject, cut, play};
 use relay_tree::{Budget, Tree};
 use std::alloc::{AllocGlobal, Global};
@@ -50,6 +50,7 @@ impl<R: AllocGlobal> Subject<R> for Hubs {
             "forget" => words(alloc, hub.forget(alloc, rest)),
             "told" => words(alloc, hub.told().sessions.as_slice()),
             "shed" => give_memory_back(alloc, hub),
+            "edits" => words(alloc, hub.edits()),
             "counts" => counted(alloc, hub.message_counts()),
             "costs" => words(alloc, lies_within(hub.cost(), rest)?),
             _ => act_on_one(alloc, hub, word, rest),

@@ -1,13 +1,16 @@
 //! The limits, one by one, as `docs/PROTOCOL.md` lists them.
 use crate::shared::{Came, words};
-use relay_history::{LAST_REVISION, MAX_REVISIONS};
-use relay_hub::{DEFAULT_ROOMS, DEFAULT_SESSIONS, MAX_ROOMS, MAX_SESSIONS};
-use relay_outbox::{MAX_PATCHES, MAX_REPLIES};
+use relay_access::MAX_NAME;
+use relay_history::LAST_REVISION;
+use relay_limits::{
+    DEFAULT_ROOMS, DEFAULT_SESSIONS, MAX_COUNT, MAX_REVISIONS, MAX_ROOMS, MAX_SESSIONS,
+    MAX_WAITING_PATCHES,
+};
+use relay_outbox::MAX_REPLIES;
 use relay_patch::{MAX_CHANGES_WEIGHT, MAX_DEPTH, MAX_OPS, MAX_RELAYED_TOKENS, MAX_WEIGHT};
 use relay_pointer::MAX_TOKENS;
-use relay_proto::{MAX_NAME, MAX_REQUEST};
+use relay_proto::MAX_REQUEST;
 use relay_test_stream::{Subject, play};
-use relay_tree::MAX_COUNT;
 use relay_view::MAX_SLOTS;
 use std::alloc::AllocGlobal;
 
@@ -43,7 +46,7 @@ const LIMITS: [u64; 18] = [
     MAX_TOKENS,
     MAX_RELAYED_TOKENS,
     MAX_REPLIES,
-    MAX_PATCHES,
+    MAX_WAITING_PATCHES,
     MAX_REVISIONS,
     LAST_REVISION,
     MAX_COUNT,

@@ -2,7 +2,8 @@
 //! each text is data in `tests/scripts`.
 use crate::replies::REPLIES;
 use crate::shared::{Came, number, owned, patch_of, tree_of, view_of, words};
-use relay_proto::{Message, Reply, Request, is_room_name, patch_text, shown_text, snapshot_text};
+use relay_access::is_room_name;
+use relay_proto::{Message, Reply, Request, patch_text, shown_text, snapshot_text};
 use relay_test_stream::{Subject, cut, play};
 use std::alloc::{AllocGlobal, Global};
 

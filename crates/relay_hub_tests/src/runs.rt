@@ -2,8 +2,8 @@
 //! done. Errors are returned here, so that `tests/refuse-allocations` can distinguish out of memory
 //! from a wrong answer.
 use crate::shared::{Came, at_revision, owned, words};
+use relay_access::Access;
 use relay_hub::{Answer, Event, Hub, HubFault, Text};
-use relay_proto::Access;
 use std::alloc::{AllocError, AllocGlobal, Global};
 use std::process::Abort;
 use std::test::Fail;

@@ -1,7 +1,7 @@
 //! Tests of what no contract states: that the definitions mean RFC 6455, and that the calls
 //! succeed.
 use crate::shared::{Came, number, owned, repeated, words};
-use relay_proto::Access;
+use relay_access::Access;
 use relay_shake::{Shake, refusal, shake};
 use relay_test_stream::{Subject, cut, play};
 use std::alloc::{AllocGlobal, Global};

@@ -5,7 +5,7 @@ use Rattle.relay_hub.specs.Step.{Step}
 use Rattle.relay_hub.specs.declared.event.Answer.{Answer}
 use Rattle.relay_hub.specs.declared.event.Event.{Event}
 use Rattle.relay_hub.specs.declared.event.Event.TheVariants.{Open, Receive, Draw, Close}
-use Rattle.relay_proto.specs.declared.access.Access.{Access}
+use Rattle.relay_access.specs.declared.access.Access.{Access}
 use Rattle.relay_link.specs.Asks.{asked_by}
 use Rattle.relay_link.specs.Stage.{session_of}
 use Rattle.relay_link.specs.declared.state.State.{State}

@@ -4,7 +4,7 @@ use Rattle.std.specs.Io.KnownBytes.{Consumes}
 use Rattle.std.proofs.KnownBytes.{Consumes-nil}
 use Rattle.relay_shake.specs.Shaken.{AnswersHead, AnswersNoHead}
 use Rattle.relay_shake.specs.declared.answer.Shake.{Shake}
-use Rattle.relay_proto.specs.declared.access.Access.{Access}
+use Rattle.relay_access.specs.declared.access.Access.{Access}
 use Rattle.relay_link.specs.Asks.{accepted, Asks, awaits_head, Receives}
 use Rattle.relay_link.specs.Stage.{stage_of, IsForward, IsSound}
 use Rattle.relay_link.specs.Stream.{stream_of}

@@ -9,7 +9,7 @@ use Rattle.relay_shake.specs.Shaken.{AnswersHead, AnswersNoHead}
 use Rattle.relay_shake.specs.Replies.{closed_refusal, refusal_of}
 use Rattle.relay_shake.specs.declared.answer.Shake.{Shake}
 use Rattle.relay_shake.specs.declared.answer.Shake.TheVariants.{Accept, Refuse}
-use Rattle.relay_proto.specs.declared.access.Access.{Access}
+use Rattle.relay_access.specs.declared.access.Access.{Access}
 use Rattle.relay_hub.specs.State.{State as Hub}
 use Rattle.relay_hub.specs.declared.event.Event.{Event}
 use Rattle.relay_link.specs.Entrance.{lets_in, unserved_reply}

@@ -12,7 +12,7 @@ use Rattle.relay_hub.specs.declared.event.Event.TheVariants.{Open, Receive}
 use Rattle.relay_hub.specs.declared.event.Opening.{Opening}
 use Rattle.relay_hub.specs.declared.fault.OpenFault.{OpenFault}
 use Rattle.relay_hub.specs.declared.fault.OpenFault.TheVariants as fault
-use Rattle.relay_proto.specs.declared.access.Access.{Access}
+use Rattle.relay_access.specs.declared.access.Access.{Access}
 use Rattle.relay_link.specs.Adds.{Adds, draws}
 use Rattle.relay_link.specs.Follows.{Point, Rooms, is_room, at, session_after, Follows, stays, makes, drawn}
 use Rattle.relay_link.specs.Hears.{Passes}

@@ -1,7 +1,7 @@
 -- In which rooms clients may enter, and what those are told who may not.
 use Rattle.std.specs.Prelude.{◌≡◌, ℕ, Bool, true, false, List, bytes_eq, string_bytes}
 use Rattle.std.specs.List.{list_any}
-use Rattle.relay_proto.specs.declared.access.Access.{Access}
+use Rattle.relay_access.specs.declared.access.Access.{Access}
 use Rattle.relay_shake.specs.Replies.{closed_refusal, refusal_of}
 use Rattle.relay_link.specs.Follows.{Rooms}
 use Rattle.relay_link.specs.declared.entrance.Entrance.{Entrance}

@@ -7,7 +7,7 @@ use Rattle.relay_hub.specs.declared.event.Event.{Event}
 use Rattle.relay_hub.specs.declared.event.Event.TheVariants.{Open}
 use Rattle.relay_hub.specs.declared.event.Opening.{Opening}
 use Rattle.relay_hub.specs.declared.fault.OpenFault.{OpenFault}
-use Rattle.relay_proto.specs.declared.access.Access.{Access}
+use Rattle.relay_access.specs.declared.access.Access.{Access}
 use Rattle.relay_link.specs.Adds.{draws}
 use Rattle.relay_link.specs.Follows.{Point, Rooms, is_room, at, Follows, stays, makes, drawn}
 use Rattle.relay_link.specs.Hears.{received}

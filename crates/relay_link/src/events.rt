@@ -11,8 +11,8 @@ ghost use Rattle.relay_link.specs.Adds.{Adds, draws};
 ghost use Rattle.relay_link.specs.declared.event_log.TheConstants.{MAX_EVENTS};
 
 use crate::event_log::EventLog;
+use relay_access::Access;
 use relay_hub::{Event, Hub, HubFault, NoSession, OpenFault, Opening, Text};
-use relay_proto::Access;
 use std::alloc::{AllocError, Global};
 
 /// Opens the link's session in a room, with the access that its head asks for. `None` if the hub

@@ -13,8 +13,8 @@ ghost use Rattle.relay_link.specs.declared.event_log.TheConstants.{MAX_EVENTS};
 use crate::event_log::EventLog;
 use crate::events;
 use crate::visit_outcome::VisitOutcome;
+use relay_access::Access;
 use relay_hub::{Event, Hub, Opening, Text};
-use relay_proto::Access;
 use std::alloc::{AllocError, Global};
 
 /// The maximum number of texts that a visit draws: the welcome, the reply, and the message that a

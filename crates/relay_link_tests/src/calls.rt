@@ -3,9 +3,9 @@
 //! The link joins session 1, which watches the whole document. Its client watches, edits twice and
 //! closes.
 use crate::link_fixture::{ASKS, LinkFixture, hub_of};
+use relay_access::Access;
 use relay_hub::{Event, Hub};
 use relay_link::{Stage, Turn};
-use relay_proto::Access;
 use relay_test_stream::{InjectedFault, Subject, Wire, play};
 use std::alloc::{AllocGlobal, Global};
 use std::cell::RefCell;

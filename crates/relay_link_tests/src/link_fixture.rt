@@ -1,8 +1,8 @@
 //! A link over a wire, whose turns are told in words. What finds no memory, or a word that is none,
 //! gives nothing, which fails the test.
+use relay_access::Access;
 use relay_hub::{Event, Hub};
 use relay_link::{Entrance, Link, MAX_DRAWS, Turn};
-use relay_proto::Access;
 use relay_test_stream::{End, Wire, cut, in_words};
 use std::alloc::{AllocError, Global};
 use std::cell::{RefCell, RefMut};

@@ -1,8 +1,9 @@
 //! Two links of one hub, to which the acts of rows are done.
 use crate::link_fixture::{LinkFixture, hub_of};
-use relay_hub::{DEFAULT_SESSIONS, Hub};
+use relay_access::Access;
+use relay_hub::Hub;
+use relay_limits::DEFAULT_SESSIONS;
 use relay_outbox::MAX_REPLIES;
-use relay_proto::Access;
 use relay_test_stream::{Subject, Wire, cut, play};
 use std::alloc::{AllocGlobal, Global};
 use std::cell::RefCell;

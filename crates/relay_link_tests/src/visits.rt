@@ -1,8 +1,8 @@
 //! Visits of a hub beside sessions that stay.
 use crate::link_fixture::tell_event;
+use relay_access::Access;
 use relay_hub::{Hub, HubConfig, Text};
 use relay_link::{Visit, VisitOutcome};
-use relay_proto::Access;
 use relay_test_stream::{Subject, cut, play};
 use std::alloc::{AllocError, AllocGlobal, Global};
 use std::process::Abort;

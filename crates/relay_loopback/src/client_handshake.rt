@@ -2,7 +2,7 @@
 ghost use Rattle.std.specs.Prelude.{◌≤◌, length, IfSome};
 
 use crate::client::Client;
-use relay_proto::Access;
+use relay_access::Access;
 use std::alloc::{AllocError, Global};
 use std::io::{Read, Write};
 use std::str;

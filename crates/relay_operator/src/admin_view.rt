@@ -4,7 +4,8 @@ use relay_admin::{
     AdminRequest, DrawnMessages, Metrics, Response, RoomRow, SnapshotsBy, begin_rooms, end_rooms,
     metrics_text, response_text, wanted_text, write_room,
 };
-use relay_hub::{Hub, MAX_ROOMS, SnapshotCounts};
+use relay_hub::{Hub, SnapshotCounts};
+use relay_limits::MAX_ROOMS;
 use std::alloc::{AllocError, Global};
 
 /// A hub, which no request changes through this view, and the numbers of its server.

@@ -1,11 +1,11 @@
 //! What is asked of a room, and the response by what came of it.
+use relay_access::{Access, is_room_name};
 use relay_admin::{
     Ask, EditRequest, NOT_JSON, NotForgotten, Outcome, PartRequest, Response, RevisionTag,
     Unavailable, edit_text, outcome_of, response_text, shown_value, watch_text,
 };
 use relay_hub::{ForgetFault, Hub, OpenFault, Text};
 use relay_link::{Visit, VisitOutcome};
-use relay_proto::{Access, is_room_name};
 use std::alloc::{AllocError, Global};
 
 /// What a connection asks of a room.

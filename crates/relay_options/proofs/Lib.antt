@@ -3,3 +3,4 @@ pub mod AddressesRead
 pub mod NumbersRead
 pub mod CommandsMade
 pub mod Stops
+mod Defaults

@@ -21,10 +21,12 @@ use Rattle.relay_options.specs.declared.job.Job.TheVariants.{Script, Loop, Follo
 use Rattle.relay_options.specs.declared.job.Stop.{Stop}
 use Rattle.relay_options.specs.declared.job.Stop.TheVariants.{Help, Misuse, NoMemory}
 use Rattle.relay_options.specs.declared.settings.Settings.{Settings}
-use Rattle.relay_options.specs.declared.settings.TheConstants.{MAX_EPOCH, MAX_HISTORY, MAX_PORT}
-use Rattle.relay_options.specs.declared.settings.TheConstants.{MAX_ROOMS, MAX_SESSIONS, MAX_ROUNDS}
-use Rattle.relay_options.specs.declared.settings.TheConstants.{MAX_OUTPUT_MIB, MAX_WAITING_PATCHES}
-use Rattle.relay_options.specs.declared.settings.TheConstants.{MAX_WEIGHT_LIMIT}
+use Rattle.relay_limits.specs.declared.TheConstants.{DEFAULT_REVISIONS, DEFAULT_ROOMS}
+use Rattle.relay_limits.specs.declared.TheConstants.{DEFAULT_SESSIONS, DEFAULT_WAITING_PATCHES}
+use Rattle.relay_limits.specs.declared.TheConstants.{MAX_COUNT, MAX_REVISIONS, MAX_ROOMS}
+use Rattle.relay_limits.specs.declared.TheConstants.{MAX_SESSIONS, MAX_WAITING_PATCHES}
+use Rattle.relay_options.specs.declared.settings.TheConstants.{MAX_OUTPUT_MIB, MAX_PORT}
+use Rattle.relay_options.specs.declared.settings.TheConstants.{MAX_ROUNDS, MAX_WEIGHT_LIMIT}
 
 -- ---- the options, by name, least and most number, and default
 
@@ -39,7 +41,7 @@ number_option name least most default = record (new_rule name) {
 }
 
 abbrev pub history_option : Rule
-history_option = number_option (codes "history") 1 MAX_HISTORY (codes "64" ∷ [])
+history_option = number_option (codes "history") 1 MAX_REVISIONS (codes "64" ∷ [])
 
 abbrev pub outbox_option : Rule
 outbox_option = number_option (codes "outbox") 1 MAX_WAITING_PATCHES (codes "32" ∷ [])
@@ -51,7 +53,7 @@ abbrev pub sessions_option : Rule
 sessions_option = number_option (codes "sessions") 1 MAX_SESSIONS (codes "256" ∷ [])
 
 abbrev pub epoch_option : List Text → Rule
-epoch_option = number_option (codes "epoch") 0 MAX_EPOCH
+epoch_option = number_option (codes "epoch") 0 MAX_COUNT
 
 abbrev pub history_weight_option : List Text → Rule
 history_weight_option = number_option (codes "max-history-weight") 0 MAX_WEIGHT_LIMIT
@@ -184,10 +186,10 @@ pub record AreSettingsOf (rows : List Row) (other : Option ℕ) (settings : Sett
 -- the settings without a subcommand: those of `relay script` without options
 abbrev pub plain_settings : Settings
 plain_settings = record {
-  history = 64;
-  max_waiting_patches = 32;
-  rooms = 64;
-  sessions = 256;
+  history = DEFAULT_REVISIONS;
+  max_waiting_patches = DEFAULT_WAITING_PATCHES;
+  rooms = DEFAULT_ROOMS;
+  sessions = DEFAULT_SESSIONS;
   epoch = 1;
   history_weight = None;
   waiting_weight = None;

@@ -3,7 +3,10 @@ use Rattle.std.specs.Prelude.{ℕ, ◌≤◌, ◌≢◌, ⊤, Bool, true, Option
 use Rattle.relay_options.specs.declared.job.Job.{Job}
 use Rattle.relay_options.specs.declared.job.Job.TheVariants.{Script, Loop, Follow, Serve}
 use Rattle.relay_options.specs.declared.settings.Settings.{Settings}
-use Rattle.relay_options.specs.declared.settings.TheConstants.{MAX_HISTORY, MAX_WAITING_PATCHES, MAX_ROOMS, MAX_SESSIONS, MAX_EPOCH, MAX_WEIGHT_LIMIT, MAX_OUTPUT_MIB, MAX_ROUNDS, MAX_PORT}
+use Rattle.relay_limits.specs.declared.TheConstants.{MAX_COUNT, MAX_REVISIONS, MAX_ROOMS}
+use Rattle.relay_limits.specs.declared.TheConstants.{MAX_SESSIONS, MAX_WAITING_PATCHES}
+use Rattle.relay_options.specs.declared.settings.TheConstants.{MAX_OUTPUT_MIB, MAX_PORT}
+use Rattle.relay_options.specs.declared.settings.TheConstants.{MAX_ROUNDS, MAX_WEIGHT_LIMIT}
 
 -- a limit of a weight, if there is one, is in range
 abbrev pub IsLimit : Option ℕ → Type 0
@@ -13,14 +16,14 @@ IsLimit (Some limit) = limit ≤ MAX_WEIGHT_LIMIT
 -- settings that are in range for a hub
 pub record AreSettings (settings : Settings) : Type 0 where
   pub some_history : 1 ≤ settings.history
-  pub history : settings.history ≤ MAX_HISTORY
+  pub history : settings.history ≤ MAX_REVISIONS
   pub some_waiting_patches : 1 ≤ settings.max_waiting_patches
   pub max_waiting_patches : settings.max_waiting_patches ≤ MAX_WAITING_PATCHES
   pub some_rooms : 1 ≤ settings.rooms
   pub rooms : settings.rooms ≤ MAX_ROOMS
   pub some_sessions : 1 ≤ settings.sessions
   pub sessions : settings.sessions ≤ MAX_SESSIONS
-  pub epoch : settings.epoch ≤ MAX_EPOCH
+  pub epoch : settings.epoch ≤ MAX_COUNT
   pub history_weight : IsLimit settings.history_weight
   pub waiting_weight : IsLimit settings.waiting_weight
   pub telling_weight : IsLimit settings.telling_weight

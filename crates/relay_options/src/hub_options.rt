@@ -10,15 +10,13 @@ ghost use Rattle.relay_options.specs.CommandLine.{telling_weight_option, view_we
 ghost use Rattle.relay_options.specs.CommandLine.{waiting_weight_option, with_script_options};
 ghost use Rattle.relay_options.specs.CommandLine.{with_settings};
 ghost use Rattle.relay_options.specs.Ranges.{AreSettings, IsLimit};
-ghost use Rattle.relay_options.specs.declared.settings.TheConstants.{MAX_EPOCH};
+ghost use Rattle.relay_limits.specs.declared.TheConstants.{MAX_COUNT};
 
 use crate::job::Stop;
-use crate::settings::{
-    MAX_EPOCH, MAX_HISTORY, MAX_ROOMS, MAX_SESSIONS, MAX_WAITING_PATCHES, MAX_WEIGHT_LIMIT,
-    Settings,
-};
+use crate::settings::{MAX_WEIGHT_LIMIT, Settings};
 use crate::values::{given_number, number, number_of};
 use clap::{Arg, ArgMatches, Command};
+use relay_limits::{MAX_COUNT, MAX_REVISIONS, MAX_ROOMS, MAX_SESSIONS, MAX_WAITING_PATCHES};
 use std::alloc::{AllocError, Global};
 
 const HISTORY: &str = "64";
@@ -66,7 +64,7 @@ pub(crate) fn with_settings<'a>(
 fn history<'a>(alloc: Global) -> Arg<'a>
     ensures { rule_of result ≡ history_option }
 {
-    number(alloc, "history", 1, MAX_HISTORY)
+    number(alloc, "history", 1, MAX_REVISIONS)
         .help("How many revisions each room holds, 1 to 1024")
         .default_value(HISTORY)
 }
@@ -108,7 +106,7 @@ fn script_epoch<'a>(alloc: Global) -> Arg<'a>
 pub(crate) fn epoch<'a>(alloc: Global) -> Arg<'a>
     ensures { rule_of result ≡ epoch_option [] }
 {
-    number(alloc, "epoch", 0, MAX_EPOCH)
+    number(alloc, "epoch", 0, MAX_COUNT)
 }
 
 pub(crate) fn history_weight<'a>(alloc: Global) -> Arg<'a>
@@ -154,7 +152,7 @@ pub(crate) fn settings_of(
     ensures no_help { IfErr result IsNoHelp }
 {
     Ok(Settings {
-        history: number_of(alloc, given, "history", 1, MAX_HISTORY)?,
+        history: number_of(alloc, given, "history", 1, MAX_REVISIONS)?,
         max_waiting_patches: number_of(alloc, given, "outbox", 1, MAX_WAITING_PATCHES)?,
         rooms: number_of(alloc, given, "rooms", 1, MAX_ROOMS)?,
         sessions: number_of(alloc, given, "sessions", 1, MAX_SESSIONS)?,
@@ -169,15 +167,15 @@ pub(crate) fn settings_of(
 /// The epoch that is given, or else the other one, if there is one; checked again as in
 /// [`number_of`].
 fn epoch_of(alloc: Global, given: &ArgMatches<'_>, other: Option<u64>) -> Result<u64, Stop>
-    ensures range { IfOk result (λ epoch. epoch ≤ MAX_EPOCH) }
+    ensures range { IfOk result (λ epoch. epoch ≤ MAX_COUNT) }
     ensures given { IfOk result (λ epoch.
         option_or (number_in (codes "epoch") (rows_of (found_of given.now))) other ≡ Some epoch) }
     ensures no_help { IfErr result IsNoHelp }
 {
     match given_number(given, "epoch").or(other) {
-        Some(epoch) if epoch <= MAX_EPOCH => Ok(epoch),
+        Some(epoch) if epoch <= MAX_COUNT => Ok(epoch),
         Some(_) => Err(Stop::Misuse(format!(in alloc;
-            "error: --epoch takes a number from 0 to {MAX_EPOCH}\n"
+            "error: --epoch takes a number from 0 to {MAX_COUNT}\n"
         )?)),
         None => Err(Stop::Misuse(format!(in alloc;
             "error: the clock cannot be read: give --epoch a number not used before\n"

@@ -13,7 +13,4 @@ mod values;
 
 pub use job::{Job, Stop};
 pub use reading::job_of;
-pub use settings::{
-    MAX_EPOCH, MAX_HISTORY, MAX_PORT, MAX_ROOMS, MAX_ROUNDS, MAX_SESSIONS, MAX_WAITING_PATCHES,
-    Settings,
-};
+pub use settings::{MAX_PORT, MAX_ROUNDS, Settings};

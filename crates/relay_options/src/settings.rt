@@ -1,22 +1,11 @@
 //! The settings of a hub.
 
-/// The largest `--history`, in revisions.
-pub const MAX_HISTORY: u64 = 1_024;
-
-/// The largest `--outbox`, in patches.
-pub const MAX_WAITING_PATCHES: u64 = 256;
-
-/// The largest `--rooms`.
-pub const MAX_ROOMS: u64 = 65_536;
-
-/// The largest `--sessions`.
-pub const MAX_SESSIONS: u64 = 65_536;
-
-/// The largest epoch, 2^53 - 1: JavaScript reads every number up to it exactly.
-pub const MAX_EPOCH: u64 = 9_007_199_254_740_991;
+use relay_limits::{
+    DEFAULT_REVISIONS, DEFAULT_ROOMS, DEFAULT_SESSIONS, DEFAULT_WAITING_PATCHES, MAX_COUNT,
+};
 
 /// The largest weight that an option accepts.
-pub const MAX_WEIGHT_LIMIT: u64 = 9_007_199_254_740_991;
+pub const MAX_WEIGHT_LIMIT: u64 = MAX_COUNT;
 
 /// The largest `--turns`, in rounds of the event loop.
 pub const MAX_ROUNDS: u64 = 1_000_000_000_000;
@@ -58,10 +47,10 @@ pub struct Settings {
 impl Settings {
     /// The defaults of a script.
     pub const DEFAULT: Settings = Settings {
-        history: 64,
-        max_waiting_patches: 32,
-        rooms: 64,
-        sessions: 256,
+        history: DEFAULT_REVISIONS,
+        max_waiting_patches: DEFAULT_WAITING_PATCHES,
+        rooms: DEFAULT_ROOMS,
+        sessions: DEFAULT_SESSIONS,
         epoch: 1,
         history_weight: None,
         waiting_weight: None,

@@ -1,7 +1,8 @@
 -- An outbox as contracts see it: the messages that wait for a session.
 use Rattle.std.specs.Prelude.{◌≡◌, ℕ, ◌≤◌, Bool, true, false, List, [], ◌∷◌, ◌++◌, length, nat_lt, if◌then◌else◌, refl}
 use Rattle.std.specs.Coded.{Coded, code_by, coded×, coded_list, coded_ℕ, coded_bool}
-use Rattle.relay_outbox.specs.declared.outbox.TheConstants.{MAX_REPLIES, MAX_PATCHES}
+use Rattle.relay_outbox.specs.declared.outbox.TheConstants.{MAX_REPLIES}
+use Rattle.relay_limits.specs.declared.TheConstants.{MAX_WAITING_PATCHES}
 
 -- the replies, the patches, whether a snapshot is due, and the most patches that may wait
 pub record Contents (R P : Type 0) : Type 0 where
@@ -33,7 +34,7 @@ module _ {R P : Type 0} where
   pub record IsOutbox (o : Contents R P) : Type 0 where
     pub replies : length o.replies ≤ MAX_REPLIES
     pub patches : length o.patches ≤ o.max_waiting_patches
-    pub limited : (1 ≤ o.max_waiting_patches) × (o.max_waiting_patches ≤ MAX_PATCHES)
+    pub limited : (1 ≤ o.max_waiting_patches) × (o.max_waiting_patches ≤ MAX_WAITING_PATCHES)
     pub either : o.due ≡ true → o.patches ≡ []
 
   -- the empty outbox

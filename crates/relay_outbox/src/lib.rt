@@ -16,4 +16,4 @@ mod outbox;
 pub use busy::Busy;
 pub use fault::OutboxFault;
 pub use front::Front;
-pub use outbox::{MAX_PATCHES, MAX_REPLIES, Outbox};
+pub use outbox::{MAX_REPLIES, Outbox};

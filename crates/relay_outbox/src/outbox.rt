@@ -5,14 +5,12 @@ use crate::busy::Busy;
 use crate::fault::OutboxFault;
 use crate::front::Front;
 use circular_buffer::HeapCircularBuffer;
+use relay_limits::MAX_WAITING_PATCHES;
 use std::alloc::Global;
 use std::marker::Model;
 
 /// The most replies that may wait.
 pub const MAX_REPLIES: u64 = 32;
-
-/// The most patches that an outbox may be asked to hold.
-pub const MAX_PATCHES: u64 = 256;
 
 /// The messages that wait for one session: replies `R` and patches `P`, in the form in which the
 /// hub stores patches. Contracts see it as `Contents`: its replies, its patches, whether a snapshot
@@ -47,13 +45,13 @@ impl<R: Drop, P: Drop> Outbox<R, P> {
 
     /// Creates an empty outbox in which at most `max_waiting_patches` patches may wait. Allocates
     /// all the memory that its rings need. Returns `BadLimit` if `max_waiting_patches` is not 1 to
-    /// [`MAX_PATCHES`], and `NoMemory` if memory runs out.
+    /// [`MAX_WAITING_PATCHES`], and `NoMemory` if memory runs out.
     pub fn new(alloc: Global, max_waiting_patches: u64) -> Result<Outbox<R, P>, OutboxFault>
         ensures ok { IfOk result (λ outbox. outbox ≡ empty max_waiting_patches) }
         ensures bad_limit { IsErrOf result OutboxFault.BadLimit ↔
-            ((max_waiting_patches < 1) ⊎ (MAX_PATCHES < max_waiting_patches)) }
+            ((max_waiting_patches < 1) ⊎ (MAX_WAITING_PATCHES < max_waiting_patches)) }
     {
-        if max_waiting_patches < 1 || max_waiting_patches > MAX_PATCHES {
+        if max_waiting_patches < 1 || max_waiting_patches > MAX_WAITING_PATCHES {
             return Err(OutboxFault::BadLimit);
         }
         let replies = HeapCircularBuffer::with_capacity(alloc, MAX_REPLIES as usize)?;

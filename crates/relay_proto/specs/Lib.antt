@@ -1,5 +1,4 @@
 pub mod Words
-pub mod RoomName
 pub mod Message
 pub mod Optional
 pub mod Request

@@ -6,7 +6,6 @@
 //! fault is the result.
 #![tactic(auto)]
 
-mod access;
 mod message;
 mod message_reading;
 mod optional;
@@ -14,18 +13,15 @@ mod reading;
 mod refusal;
 mod reply;
 mod request;
-mod room_name;
 mod text;
 mod updates;
 mod word;
 
-pub use access::Access;
 pub use message::Message;
 pub use message_reading::MessageFault;
 pub use reading::{MAX_REQUEST, MAX_WILL_WEIGHT};
 pub use refusal::{Refusal, RequestFault};
 pub use reply::{Reply, ResumeOutcome};
 pub use request::Request;
-pub use room_name::{MAX_NAME, is_room_name};
 pub use updates::{patch_text, shown_text, snapshot_text};
 pub use word::Word;

@@ -9,7 +9,8 @@ use Rattle.relay_patch.specs.declared.change.Change.{Change}
 use Rattle.relay_patch.specs.Patch.{exceeds, within}
 use Rattle.relay_patch.specs.Change.{Leads}
 use Rattle.relay_patch.proofs.Made.{Leads-append}
-use Rattle.relay_history.specs.declared.history.TheConstants.{MAX_REVISIONS, LAST_REVISION}
+use Rattle.relay_history.specs.declared.history.TheConstants.{LAST_REVISION}
+use Rattle.relay_limits.specs.declared.TheConstants.{MAX_REVISIONS}
 use Rattle.relay_history.specs.History.{IsHistory, Reaches, in_order, with_revision, changes_since}
 use Rattle.relay_history.specs.Trimmed.{afforded}
 use Rattle.relay_history.proofs.Afforded.{afforded_front}

@@ -10,7 +10,8 @@ use Rattle.relay_patch.specs.declared.op.Op.TheVariants.{Remove, Replace}
 use Rattle.relay_patch.specs.declared.change.Change.{Change}
 use Rattle.relay_patch.specs.declared.change.Change.TheVariants.{Set}
 use Rattle.relay_history.specs.History as history
-use Rattle.relay_history.specs.declared.history.TheConstants.{MAX_REVISIONS, LAST_REVISION}
+use Rattle.relay_history.specs.declared.history.TheConstants.{LAST_REVISION}
+use Rattle.relay_limits.specs.declared.TheConstants.{MAX_REVISIONS}
 use Rattle.relay_history.specs.History.{with_revision}
 use Rattle.relay_room.specs.Room.{State}
 use Rattle.relay_room.specs.Fault.{room_fault}

@@ -4,7 +4,8 @@ use Rattle.relay_tree.specs.Document.{Document, depth, weight}
 use Rattle.relay_patch.specs.declared.bounds.TheConstants.Bounds.{DOCUMENT}
 use Rattle.relay_history.specs.declared.fault.HistoryFault.{HistoryFault}
 use Rattle.relay_history.specs.declared.fault.HistoryFault.TheVariants as history
-use Rattle.relay_history.specs.declared.history.TheConstants.{MAX_REVISIONS, LAST_REVISION}
+use Rattle.relay_history.specs.declared.history.TheConstants.{LAST_REVISION}
+use Rattle.relay_limits.specs.declared.TheConstants.{MAX_REVISIONS}
 use Rattle.relay_room.specs.declared.fault.RoomFault.{RoomFault}
 use Rattle.relay_room.specs.declared.fault.RoomFault.TheVariants as room
 

@@ -36,7 +36,7 @@ impl Room {
     ghost use Rattle.relay_tree.specs.Document.{Document};
     ghost use Rattle.relay_tree.specs.Document.{null, weight};
     ghost use Rattle.relay_history.specs.Trimmed.{history_weight};
-    ghost use Rattle.relay_history.specs.declared.history.TheConstants.{MAX_REVISIONS};
+    ghost use Rattle.relay_limits.specs.declared.TheConstants.{MAX_REVISIONS};
     ghost use Rattle.relay_room.specs.Room.{IsRoom, begun, revision, trimmed};
     ghost use Rattle.relay_room.specs.Fault.{room_fault};
     ghost use Rattle.relay_room.specs.declared.fault.RoomFault.TheVariants.{BadLimit, NoMemory};

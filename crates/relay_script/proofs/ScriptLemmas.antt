@@ -5,7 +5,7 @@ use Rattle.relay_follow.specs.declared.fault.HearFault.TheVariants.{NoMemory}
 use Rattle.relay_hub.specs.declared.event.Answer.TheVariants.{Closed}
 use Rattle.relay_hub.specs.declared.event.Event.{Event}
 use Rattle.relay_hub.specs.declared.fault.HubFault.{HubFault}
-use Rattle.relay_proto.specs.declared.access.Access.{Access}
+use Rattle.relay_access.specs.declared.access.Access.{Access}
 use Rattle.relay_tree.specs.Document.{Document}
 use Rattle.relay_script.specs.Line.{Act, opens, says, draws, closes, shows, tells, Form, blank, unknown, named}
 use Rattle.relay_script.specs.Script.{Stage, stage, Opens, DoesWill, Closes, ActsOpen, Goes, Attends, OnlyName, ActsNew, ActsNamed, Does, Answers, client_of}

@@ -3,8 +3,8 @@ use Rattle.std.specs.Prelude.{◌≡◌, ℕ, List, [], ◌∷◌, length, Bool,
 use Rattle.std.specs.Char.{is_ascii_alphanumeric}
 use Rattle.std.specs.List.{list_all, position_or_len, before_first, after_first}
 use Rattle.std.specs.Str.{IsUtf8}
-use Rattle.relay_proto.specs.declared.access.Access.{Access}
-use Rattle.relay_proto.specs.declared.access.Access.TheVariants.{ReadWrite, ReadOnly}
+use Rattle.relay_access.specs.declared.access.Access.{Access}
+use Rattle.relay_access.specs.declared.access.Access.TheVariants.{ReadWrite, ReadOnly}
 use Rattle.relay_script.specs.declared.line.Command.{Command}
 use Rattle.relay_script.specs.declared.line.Command.TheVariants as command
 use Rattle.relay_script.specs.declared.line.Line.{Line}

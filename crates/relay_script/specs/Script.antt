@@ -9,7 +9,7 @@ use Rattle.relay_hub.specs.declared.config.HubConfig.{HubConfig}
 use Rattle.relay_hub.specs.declared.event.Answer.TheVariants.{Drawn, Closed}
 use Rattle.relay_hub.specs.declared.event.Event.TheVariants.{Open, Receive, Draw, Close, DoWill}
 use Rattle.relay_hub.specs.declared.fault.HubFault.{HubFault}
-use Rattle.relay_proto.specs.declared.access.Access.{Access}
+use Rattle.relay_access.specs.declared.access.Access.{Access}
 use Rattle.relay_tree.specs.Document.{Document}
 use Rattle.relay_script.specs.Line.{Act, opens, says, draws, closes, shows, tells, Form, blank, unknown, named, LineIs}
 use Rattle.relay_script.specs.Transport.{Transporting, Telling, session_after, HubComes, HubTells}

@@ -2,7 +2,7 @@
 ghost use Rattle.std.specs.Prelude.{◌≡◌, option_map};
 ghost use Rattle.relay_script.specs.Line.{LineIs, form_of, with_rest, alone, act_in, act_of, named_form, is_name, opening_of, shown};
 
-use relay_proto::Access;
+use relay_access::Access;
 use std::str;
 
 /// A parsed line.

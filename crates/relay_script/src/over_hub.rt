@@ -5,8 +5,8 @@ ghost use Rattle.relay_script.specs.Transport.{outcome_of};
 
 use crate::outcome::Outcome;
 use crate::transport::Transport;
+use relay_access::Access;
 use relay_hub::{Answer, Heard, Hub, HubFault, NoSession, OpenFault, Opening, Text};
-use relay_proto::Access;
 use relay_tree::Tree;
 use std::alloc::{AllocError, Global};
 

@@ -10,7 +10,7 @@ use crate::script_client::ScriptClient;
 use crate::transport::Transport;
 use crate::words::{Words, unknown_form};
 use indexmap::IndexMap;
-use relay_proto::Access;
+use relay_access::Access;
 use std::alloc::{AllocError, Global};
 
 /// The number of the first session, in a script and in a server.

@@ -9,9 +9,9 @@ use crate::outcome::Outcome;
 use crate::retrying_follower::RetryingFollower;
 use crate::transport::Transport;
 use crate::words::Words;
+use relay_access::Access;
 use relay_follow::HearFault;
 use relay_hub::Answer;
-use relay_proto::Access;
 use std::alloc::AllocError;
 
 #[derive(Drop)]

@@ -7,8 +7,8 @@ ghost use Rattle.relay_tree.specs.Document.{Document};
 ghost use Rattle.relay_script.specs.declared.outcome.Outcome.{Outcome};
 
 use crate::outcome::Outcome;
+use relay_access::Access;
 use relay_hub::HubFault;
-use relay_proto::Access;
 use relay_tree::Tree;
 use std::alloc::{AllocError, Global};
 

@@ -1,6 +1,6 @@
 //! Tests of the limits on lines, and of a script's limits.
 use crate::story::{number, on_one_line, played};
-use relay_options::{MAX_HISTORY, MAX_ROOMS, MAX_SESSIONS, MAX_WAITING_PATCHES};
+use relay_limits::{MAX_REVISIONS, MAX_ROOMS, MAX_SESSIONS, MAX_WAITING_PATCHES};
 use relay_server::{MAX_LINE, MAX_LINES, connection_limit};
 use relay_test_stream::{Subject, cut, play};
 use std::alloc::{AllocGlobal, Global};
@@ -59,7 +59,7 @@ impl<R: AllocGlobal> Subject<R> for ScriptLimits {
 
 fn limits(alloc: Global) -> Option<String> {
     format!(in alloc;
-        "{MAX_LINE} bytes of a line, {MAX_LINES} lines of a script, {MAX_HISTORY} revisions of a history, {MAX_WAITING_PATCHES} patches that wait, {MAX_ROOMS} rooms, {MAX_SESSIONS} sessions"
+        "{MAX_LINE} bytes of a line, {MAX_LINES} lines of a script, {MAX_REVISIONS} revisions of a history, {MAX_WAITING_PATCHES} patches that wait, {MAX_ROOMS} rooms, {MAX_SESSIONS} sessions"
     ).ok()
 }
 

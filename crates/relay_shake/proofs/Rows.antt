@@ -3,7 +3,7 @@ use Rattle.std.proofs.Common.{◌≡◌, ℕ, List, [], ◌∷◌, codes, true, 
 use Rattle.httparse.specs.Grammar.{RequestHead, crlf, Field, trim_ows}
 use Rattle.relay_http_head.specs.Head.{has_element, only_value}
 use Rattle.relay_shake.specs.Key.{key_of}
-use Rattle.relay_proto.specs.declared.access.Access.TheVariants.{ReadWrite, ReadOnly}
+use Rattle.relay_access.specs.declared.access.Access.TheVariants.{ReadWrite, ReadOnly}
 use Rattle.relay_shake.specs.Route.{asked_of}
 use Rattle.relay_shake.specs.Handshake.{accept, refuse, verdict_of}
 

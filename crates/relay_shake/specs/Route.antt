@@ -2,9 +2,9 @@
 use Rattle.std.specs.Prelude.{ℕ, Bool, false, not, ◌==◌, ◌-◌, if◌then◌else◌, List, [], ◌∷◌, length, take, codes, nat_eq, Option, Some, None, option_map, option_and_then}
 use Rattle.std.specs.List.{list_all, ends_with}
 use Rattle.std.specs.Option.{option_or}
-use Rattle.relay_proto.specs.RoomName.{is_room_name}
-use Rattle.relay_proto.specs.declared.access.Access.{Access}
-use Rattle.relay_proto.specs.declared.access.Access.TheVariants.{ReadWrite, ReadOnly}
+use Rattle.relay_access.specs.RoomName.{is_room_name}
+use Rattle.relay_access.specs.declared.access.Access.{Access}
+use Rattle.relay_access.specs.declared.access.Access.TheVariants.{ReadWrite, ReadOnly}
 use Rattle.relay_http_head.specs.Head.{kept}
 use Rattle.relay_shake.specs.declared.route.Asked.{Asked}
 

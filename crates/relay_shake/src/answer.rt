@@ -1,5 +1,5 @@
 //! The answer to a handshake.
-use relay_proto::Access;
+use relay_access::Access;
 
 /// The answer to the bytes received so far.
 #[derive(Debug, Drop)]

@@ -6,8 +6,8 @@ ghost use Rattle.relay_shake.specs.Handshake.{verdict_on};
 
 use crate::key::key_of;
 use crate::route::asked_of;
+use relay_access::Access;
 use relay_http_head::{Fault, Head, demand, has_element, only_value};
-use relay_proto::Access;
 use std::alloc::Global;
 
 /// The most header fields of a head.

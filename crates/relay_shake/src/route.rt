@@ -4,7 +4,7 @@ ghost use Rattle.matchit.specs.declared.error.InsertError.TheVariants as InsertE
 ghost use Rattle.relay_shake.specs.Route.{asked_of, asked_by, before, routed, room_of};
 
 use matchit::{InsertError, Router};
-use relay_proto::{Access, is_room_name};
+use relay_access::{Access, is_room_name};
 use std::alloc::{AllocError, Global};
 
 /// The suffix of the targets whose sessions may only watch.

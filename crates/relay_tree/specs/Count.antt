@@ -2,7 +2,7 @@
 use Rattle.std.specs.Prelude.{ℕ, pos, Bool, List, Option, Some, None, option_and_then, nat_le, if◌then◌else◌}
 use Rattle.relay_tree.specs.Document.{Document, whole}
 use Rattle.relay_tree.specs.Part.{object_member}
-use Rattle.relay_tree.specs.declared.count.TheConstants.{MAX_COUNT}
+use Rattle.relay_limits.specs.declared.TheConstants.{MAX_COUNT}
 
 abbrev pub count_most : ℕ
 count_most = MAX_COUNT

@@ -4,9 +4,7 @@ ghost use Rattle.relay_tree.specs.Document.{whole};
 ghost use Rattle.relay_tree.specs.Count.{count_of, count_in};
 
 use crate::tree::{Node, Tree};
-
-/// The largest count, `2^53 - 1`. Revisions, epochs, ids and session numbers are counts.
-pub const MAX_COUNT: u64 = 9_007_199_254_740_991;
+use relay_limits::MAX_COUNT;
 
 impl Tree {
     /// Returns the tree as a count, or `None` if it is not a whole number from 0 to [`MAX_COUNT`].

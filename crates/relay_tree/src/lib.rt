@@ -23,7 +23,6 @@ mod tree;
 mod write;
 
 pub use budget::Budget;
-pub use count::MAX_COUNT;
 pub use element::{Element, iter_items};
 pub use json::Scratch;
 pub use member::insert_member;

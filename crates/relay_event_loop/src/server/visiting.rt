@@ -9,10 +9,10 @@ ghost use Rattle.relay_event_loop.specs.Visited.{Visited};
 
 use super::Server;
 use crate::connection_log::ConnectionLog;
+use relay_access::Access;
 use relay_hub::Text;
 use relay_link::Visit;
 use relay_operator::Readiness;
-use relay_proto::Access;
 use std::alloc::{AllocError, Global};
 use std::io::{Read, Write};
 use std::net::OpenStream;

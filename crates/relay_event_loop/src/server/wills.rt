@@ -8,7 +8,7 @@ ghost use Rattle.relay_event_loop.specs.Advances.{KeepsFewer};
 use super::Server;
 use super::reading::{MAX_PASSES, TURN_COST};
 use crate::connection_log::ConnectionLog;
-use relay_hub::MAX_SESSIONS;
+use relay_limits::MAX_SESSIONS;
 use relay_operator::Readiness;
 use relay_schedule::Spending;
 use std::alloc::{AllocError, Global};

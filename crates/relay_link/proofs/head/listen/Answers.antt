@@ -2,7 +2,7 @@
 -- that the read took.
 use Rattle.std.proofs.Common.{rules, ◌≡◌, ◌≤◌, ℕ, List, true, false, length, take, string_bytes, Some, sym, ap, is_err, ◌∙◌, subst}
 use Rattle.std.specs.Io.KnownBytes.{Consumes}
-use Rattle.relay_proto.specs.declared.access.Access.{Access}
+use Rattle.relay_access.specs.declared.access.Access.{Access}
 use Rattle.relay_link.specs.Asks.{Asks, Receives}
 use Rattle.relay_link.specs.Entrance.{lets_in, Within}
 use Rattle.relay_link.specs.Follows.{is_room}

@@ -4,7 +4,7 @@
 //! allowed in both, and none needs an escape in either.
 ghost use Rattle.std.specs.Prelude.{◌≡◌};
 ghost use Rattle.std.specs.List.{list_all};
-ghost use Rattle.relay_proto.specs.RoomName.{is_room_name, is_room_byte};
+ghost use Rattle.relay_access.specs.RoomName.{is_room_name, is_room_byte};
 
 /// The most bytes of a room name.
 pub const MAX_NAME: usize = 64;

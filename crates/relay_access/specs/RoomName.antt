@@ -2,7 +2,7 @@
 use Rattle.std.specs.Prelude.{ℕ, List, length, Bool, ◌&&◌, ◌||◌, ◌==◌, nat_le}
 use Rattle.std.specs.List.{list_all}
 use Rattle.std.specs.Char.{is_ascii_alphanumeric}
-use Rattle.relay_proto.specs.declared.room_name.TheConstants.{MAX_NAME}
+use Rattle.relay_access.specs.declared.room_name.TheConstants.{MAX_NAME}
 
 -- an ASCII letter or digit, `-` or `_`
 abbrev pub is_room_byte : ℕ → Bool

@@ -1,0 +1,9 @@
+//! What a client enters by: the name of a room, and what it may do there. A handshake names both,
+//! a line of a script the room.
+#![tactic(auto)]
+
+mod access;
+mod room_name;
+
+pub use access::Access;
+pub use room_name::{MAX_NAME, is_room_name};
