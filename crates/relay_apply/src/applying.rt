@@ -29,9 +29,9 @@ use std::alloc::Global;
 ///
 /// The tree is changed in place. An operation costs its paths, what it removes, and two copies of
 /// its value: one in the change, and one in the tree; a move copies its value for the change alone.
-/// An insertion into a container, or a removal, moves the block of its parts behind that place. A
-/// near move within one list exchanges neighbours. If a later operation is refused, the earlier
-/// ones are taken back: for a removal, memory for that is taken before it, and hardly ever used.
+/// An insertion or a removal shifts the later parts of its container. A move within one list by at
+/// most 64 places swaps neighbours. If an operation is refused, the earlier ones are undone. A
+/// removal reserves the memory for its undo before it is made; that memory is hardly ever used.
 /// The document is measured once, as far as there are bounds, and again after the first change if
 /// it was outside them. After that, only what an operation changed is measured.
 ///

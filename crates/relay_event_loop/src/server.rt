@@ -31,8 +31,8 @@ use std::alloc::Global;
 use std::io::{Read, Write};
 use std::net::{OpenListener, OpenStream};
 
-/// The maximum number of connections that a server holds whose hub allows that number of sessions:
-/// a quarter more, and at least 64 more. The others have no session yet, or none any more.
+/// How many connections a server holds at most if its hub allows so many sessions: a quarter more,
+/// and at least 64 more. The extra ones are in their handshake, or closing.
 pub fn connection_limit(sessions: u64) -> usize
     ensures { result ≡ connection_limit sessions }
 {
@@ -62,15 +62,17 @@ pub fn connection_limit(sessions: u64) -> usize
 pub struct Server<S: Write + Drop, R> {
     hub: Hub,
     connections: Slab<Connection<S>>,
-    /// In which rooms clients may enter, and from which they were turned away.
+    /// The rooms that clients may enter.
     entrance: Entrance,
+    /// The rooms from which clients were turned away.
     wanted: WantedRooms,
     /// The maximum number of connections.
     most: usize,
     readiness: R,
     events: Vec<ReadyEvent>,
-    /// Whether a connection may wait to be accepted; `failed`: whether the last accept failed.
+    /// Whether a connection may wait to be accepted.
     accept_ready: bool,
+    /// Whether the last accept failed by another error than `WouldBlock`.
     failed: bool,
     /// The connections that may have a turn.
     queues: Queues,
@@ -80,13 +82,14 @@ pub struct Server<S: Write + Drop, R> {
     vacancies: RoomVacancies,
     /// What all links hold of output.
     output: OutputTotal,
-    /// How many texts were passed to the hub, and how many wills were done.
+    /// How many texts were passed to the hub.
     texts: u64,
+    /// How many wills were done.
     wills: u64,
     /// The key of the connection that has a session, by the session's number.
     sessions: IndexMap<u64, usize>,
     rounds: u64,
-    /// How many seconds the source of readiness has told.
+    /// How many seconds have passed, by [`ReadyEvent::Second`].
     seconds: u64,
     /// The first round in which the log may say again that memory was refused.
     next_shed_entry: u64,
@@ -96,8 +99,9 @@ pub struct Server<S: Write + Drop, R> {
 
 impl<S: Read + Write + OpenStream + Drop, R: Readiness<S>> Server<S, R> {
     /// A server of a hub, with no connection. A room is read ahead by half as many texts as patches
-    /// may wait for a session of the hub, and by half as many bytes as these may weigh. Its links
-    /// hold as many bytes of output as given, and what one turn draws beyond.
+    /// may wait for a session of the hub, and by half as many bytes as these may weigh. Once its
+    /// links hold `most_output` bytes, no large snapshot is drawn; replies, patches and small
+    /// snapshots still are.
     #[tactic(auto, using(crate::proofs::Owners::none_connected))]
     pub fn new(alloc: Global, hub: Hub, readiness: R, most_output: u64) -> Server<S, R>
         ensures empty { connections_of result ≡ 0 }
@@ -170,9 +174,10 @@ impl<S: Read + Write + OpenStream + Drop, R: Readiness<S>> Server<S, R> {
     /// are dropped. If it is unknown what is ready, everything counts as ready.
     ///
     /// Once the links hold as much output as they may, no snapshot of a document that weighs more
-    /// than 4,096 is drawn. A link's buffer never shrinks. So in each second the links with the
-    /// largest buffers of which nothing waits, or nothing was taken for 30 seconds, are ended,
-    /// until the others hold half of what they may.
+    /// than 4,096 is drawn. A link's buffer never shrinks. So while that
+    /// much is held, up to 64 links are ended each second, the largest buffer first: links above an
+    /// equal share that have sent everything, or whose stream took nothing for 30 seconds. It stops
+    /// once half of the limit is free.
     #[tactic(auto, using(crate::proofs::Rules::rounds))]
     pub fn round<L: OpenListener<Stream = S>, J: ConnectionLog>(
         &mut self,

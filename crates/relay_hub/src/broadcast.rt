@@ -24,8 +24,8 @@ use relay_room::Room;
 use relay_translate::WatchIndex;
 use std::alloc::{AllocError, Global};
 
-/// Notifies the watchers of the newest edit, within the hub's bounds, counts the edit, and writes
-/// down whom it told. Then the room drops the oldest changes that may not be kept. Returns how many
+/// Notifies the watchers of the newest edit within the hub's bounds, counts the edit, and records
+/// whom it notified. Then the room drops the oldest changes that may not be kept. Returns how many
 /// outboxes folded because memory ran out.
 pub fn broadcast_and_trim(
     alloc: Global,

@@ -56,9 +56,9 @@ pub struct Hub {
     /// session.
     wills: Vec<Will>,
     counts: MessageCounts,
-    /// At least the bytes of the texts that the rooms keep of snapshots.
+    /// An upper bound of the bytes of the snapshot texts that rooms keep.
     kept_bytes: u64,
-    /// Whom the last text or will told something, and what all of them cost.
+    /// Whom the last text or will notified, how many edits were accepted, and what all work cost.
     report: Report,
     /// The memory in which texts are read.
     scratch: Box<Scratch>,
@@ -415,10 +415,10 @@ impl Hub {
         room_sessions.begin_anew(alloc, self.config.history)
     }
 
-    /// Gives memory back when there was none: each room forgets its history, if a weight bounds
-    /// that, so that a resume from before its last change is answered by a snapshot; and the
-    /// patches that wait for a session fold into one snapshot that is due. Documents, sessions and
-    /// replies stay. Allocates nothing.
+    /// Gives memory back after an allocation was refused: each room forgets its history, if a
+    /// weight bounds that, so that a resume from before its last change is answered by a snapshot;
+    /// and the patches that wait for a session fold into one snapshot that is due. Documents,
+    /// sessions and replies stay. Allocates nothing.
     pub fn shed(&mut self)
         ensures shed { self.new ≡ shed self.old }
         ensures stands { (b : HubConfig) (E : Log) → StandsFor b E self.old

@@ -15,7 +15,8 @@ pub enum EndCause {
     Stream,
     /// Out of memory in the link or its socket, or for an incoming text.
     Memory,
-    /// The socket's output buffer was full.
+    /// The server's links held too much output, and this one was ended to free some. (A full output
+    /// buffer of the socket has this cause too; that does not occur.)
     Full,
     /// The other side did not answer a close frame.
     Silent,

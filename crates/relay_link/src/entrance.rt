@@ -9,7 +9,7 @@ use std::alloc::Global;
 /// In which rooms a good handshake opens a session.
 #[derive(Drop)]
 pub enum Entrance {
-    /// In each.
+    /// Clients may enter every room.
     Open,
     /// In the rooms of these names alone. For another one the reply is 503, and says that the
     /// client may try again after a second.
@@ -17,7 +17,7 @@ pub enum Entrance {
 }
 
 impl Entrance {
-    /// In no room. Allocates nothing.
+    /// An entrance that lets clients into no room. Allocates nothing.
     pub fn closed(alloc: Global) -> Entrance
         ensures { (room : List ℕ) → lets_in result room ≡ false }
     {

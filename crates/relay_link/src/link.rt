@@ -96,10 +96,9 @@ impl<S: Read + Write + Drop> Link<S> {
         self.state.stage()
     }
 
-    /// Whether a turn has no work until the stream is ready again or a message waits for the
-    /// session. `false` if the last read turn found a close; if it found a message and bytes behind
-    /// it were read, or the stream's last read gave all that it was asked for, since more may have
-    /// come; or if a turn since then was interrupted or out of memory.
+    /// Whether a turn has no work until the stream is ready, or a message waits for the session.
+    /// `false` in three cases: the last read turn found a close; it found a message, and more bytes
+    /// were read or may be in the stream; a turn since then was interrupted or out of memory.
     pub fn is_idle(&self) -> bool
         ensures { result ≡ is_idle self.now }
     {

@@ -149,8 +149,8 @@ fn serve<S: Read + Write + Drop>(
         return Ok(DrawStop::Pending);
     }
     let exchanged = hear_and_draw(alloc, socket, session, phase, draws, hub, events);
-    // A link that ends still sends the messages that were framed before. If it is gone already, it
-    // is so for the cause of that, and not of the flush.
+    // A link that ends still sends the messages that were framed before. If it is Gone, the
+    // cause is the one found before; an error of this flush is ignored.
     socket
         .get_ref()
         .set_corked(phase == TurnPhase::Read && exchanged.is_ok());
@@ -278,8 +278,8 @@ fn next_text<S: Read + Write + Drop>(socket: &mut Socket<S>) -> Result<Option<Te
 }
 
 /// Draws messages and frames each: up to `draws`, until none waits, the stream takes no output, or
-/// memory is refused for a draw, which asks for another turn. Returns which of these it was. If it
-/// is refused for the frame of a message that was drawn, the link ends.
+/// memory is refused for a draw (then another turn is asked for). Returns which one it was. If
+/// memory is refused for the frame of a drawn message, the link ends.
 #[tactic(auto, using(crate::proofs::Following::follows_same, crate::proofs::Following::follows_then, crate::proofs::Hearing::passes_same, crate::proofs::Hearing::passes_then, crate::proofs::Telling::tells_start, crate::proofs::Telling::tells_on, crate::proofs::Telling::tells_text))]
 fn draw_messages<S: Read + Write + Drop>(
     alloc: Global,

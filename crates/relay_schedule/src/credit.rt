@@ -19,7 +19,7 @@ pub struct Credit {
 }
 
 impl Credit {
-    /// That of a new connection, which owes [`ENTRY_DEBT`].
+    /// The credit of a new connection, which owes [`ENTRY_DEBT`].
     pub fn of_new(round: u64) -> Credit
         ensures { result ≡ record { spent = ROUND_CREDIT + ENTRY_DEBT; round = round } }
     {

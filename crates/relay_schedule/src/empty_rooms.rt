@@ -21,7 +21,7 @@ impl EmptyRooms {
     ghost use Rattle.std.specs.Prelude.{◌≡◌, ◌<◌, [], length, IsOk, OnOk, OnErr};
     ghost use Rattle.relay_schedule.specs.Empty.{admitting, with_left, since};
 
-    /// No room yet.
+    /// A table without rooms.
     pub fn new(alloc: Global) -> EmptyRooms
         ensures { result ≡ [] }
     {

@@ -23,7 +23,7 @@ pub struct OutputTotal {
 }
 
 impl LinkOutput {
-    /// That of a link that has drawn nothing.
+    /// The output of a link that has drawn nothing.
     pub const NONE: LinkOutput = LinkOutput {
         unsent: 0,
         held: 0,
@@ -54,7 +54,7 @@ impl LinkOutput {
 }
 
 impl OutputTotal {
-    /// Nothing, of so much.
+    /// A total of 0, with this limit.
     pub fn within(most: u64) -> OutputTotal
         ensures { result ≡ record { held = 0; most = most } }
     {

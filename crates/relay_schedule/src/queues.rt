@@ -26,9 +26,9 @@ pub struct Wants {
     pub closing: bool,
 }
 
-/// The keys of the connections that may be read, of those that may be written to, for corked output
-/// and for any, of those that are held back, and of those that are closing. A key stays where it is
-/// if its connection is dropped or no longer wants the turn, so whoever takes it out looks first.
+/// Five queues of connection keys: `ready` to read; `corked`, to write what a read turn framed;
+/// `waiting`, to write anything; `held_back`; `closing`. A key stays queued if its connection is
+/// dropped or no longer wants the turn, so a caller that pops a key checks the connection.
 #[derive(Drop)]
 pub struct Queues {
     pub ready: ReadyQueue,

@@ -4,9 +4,10 @@ use crate::key_queue::KeyQueue;
 use std::alloc::{AllocError, Global};
 use std::marker::Model;
 
-/// Two lines of keys: those with credit, whose turns come first, and those who owe, of whom one has
-/// a turn in each round of the server. Each key stands in one of them at most. A round of credit
-/// ends once each that owed when it began has had its turn. Contracts see it as `Lines`.
+/// Two queues of keys: `credited`, which is served first, and `owing`. A server's round serves one
+/// key of `owing` at least, and more while it has cost less than its bound. No key is in both. A
+/// round of credit ends once each key that owed when it began was served. Contracts see it as
+/// `Lines`.
 #[derive(Drop)]
 pub struct ReadyQueue {
     credited: KeyQueue,

@@ -87,7 +87,7 @@ impl RoomShares {
     ghost use Rattle.std.specs.Prelude.{◌≡◌, ◌<◌, length, IsOk, OnOk, OnErr};
     ghost use Rattle.relay_schedule.specs.Share.{may_read_ahead, with_text, with_writer, without_writer, no_rooms, admitting, share_of, in_room};
 
-    /// No room yet.
+    /// A table without rooms.
     pub fn new(alloc: Global, limits: ShareLimits) -> RoomShares
         ensures { result ≡ no_rooms limits }
     {

@@ -1,7 +1,7 @@
-//! What the turns of a round have cost.
+//! A sum with a bound: the microseconds of a round's turns, or the bytes that a pass has drawn.
 ghost use Rattle.std.specs.Prelude.{◌≡◌, ◌≤◌, ◌<◌, ◌+◌, ◌-◌, ◌^◌, min, nat_lt};
 
-/// What a round has spent, and the bound at which it begins no other turn.
+/// What was spent, and the bound at which no other turn begins. The unit is the caller's.
 #[derive(Clone, Copy, Debug, PartialEq, Eq)]
 pub struct Spending {
     pub spent: u64,
@@ -9,7 +9,7 @@ pub struct Spending {
 }
 
 impl Spending {
-    /// Nothing yet.
+    /// A sum of 0, with this bound.
     pub fn within(bound: u64) -> Spending
         ensures { result ≡ record { spent = 0; bound = bound } }
     {

@@ -47,16 +47,16 @@ pub struct ServeOptions {
     /// Whether the room that has been empty for the longest time is forgotten once all places are
     /// taken.
     pub forget_rooms: bool,
-    /// Whether clients may enter only once an operator says so. Without one they never may.
+    /// Whether clients may enter only once an operator opens the relay. Without `admin` none can.
     pub closed: bool,
     /// How much output its links hold together, in MiB.
     pub output_mib: u64,
 }
 
-/// Listens, prints `listening PORT`, runs the rounds, ends every connection, and prints `turns N`
-/// with how many rounds were run: all, unless an operator asked for the stop. The log goes to
-/// `errors`, and before it a warning if other machines may reach the port. At `BadLimit`, `Listen`
-/// and `Wait` nothing was printed. At `NoMemory` no line is cut; at `Output` one may be.
+/// Listens, prints `listening PORT`, runs the rounds, ends the connections, and prints `turns N`:
+/// the rounds asked for, or fewer if an operator stopped it. `errors` gets a warning first if other
+/// machines may reach the port, and then the log. At `BadLimit`, `Listen` and `Wait` nothing was
+/// written to `writer`. At `NoMemory` no line there is cut; at `Output` one may be.
 pub fn serve<N: Clock + Net, W: Write, E: Write>(
     alloc: Global,
     net: &N,

@@ -1,6 +1,6 @@
-//! The slots that a change can touch, found from the places at which it adds or removes something:
-//! those whose pointers are a prefix of such a place or begin with it and, if the place is an item,
-//! those that begin with the path of its list. No other slot is checked.
+//! The slots that a change can touch, found from the places at which it sets, adds or removes a
+//! part: those whose pointers are a prefix of such a place or begin with it and, if the place is an
+//! item, those that begin with the path of its list. No other slot is checked.
 ghost use Rattle.std.specs.Prelude.{◌≡◌, ◌||◌, ℕ, true, take, OnOk};
 ghost use Rattle.std.specs.Ordering.{nat_cmp};
 ghost use Rattle.std.specs.BTreeSet.{contains};

@@ -85,11 +85,11 @@ impl WatchIndex {
     /// Returns the sessions with a slot that some change touches, in ascending order, each once.
     /// For every other session the changes translate to no operation.
     ///
-    /// For each place at which a change adds or removes something, it checks only the slots whose
-    /// pointers are a prefix of the place or begin with it and, if the place is an item, those that
-    /// begin with the path of its list; at the root, all slots. Costs a look-up for each token of a
-    /// place, and a comparison for each pointer checked; a copy of the place too, if nobody watches
-    /// it, and pointers that are as long were watched.
+    /// For each place at which a change sets, adds or removes a part, it checks only the slots
+    /// whose pointers are a prefix of the place or begin with it and, if the place is an item,
+    /// those that begin with the path of its list; at the root, all slots. Costs a look-up for each
+    /// token of a place, and a comparison for each pointer checked; a copy of the place too, if
+    /// nobody watches it, and pointers that are as long were watched.
     ///
     /// ```
     /// let mut watches = WatchIndex::new(alloc);

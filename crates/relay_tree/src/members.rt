@@ -12,7 +12,7 @@ use std::mem::replace;
 use std::slice;
 
 /// The members of an object: values under names, each name once. Contracts see their names and
-/// values, in the byte order of the names, and for how many there is place.
+/// values, in the byte order of the names, and the capacity.
 #[cycle(tree)]
 #[derive(Drop)]
 pub struct Members {
@@ -69,7 +69,7 @@ impl Members {
         }
     }
 
-    /// Returns no members, with place for so many.
+    /// Returns no members, with capacity for so many.
     pub fn with_capacity(alloc: Global, len: usize) -> Result<Members, AllocError>
         ensures { IfOk result (λ members. (members.entries ≡ []) × (len ≤ members.capacity)) }
     {
@@ -94,7 +94,7 @@ impl Members {
         self.entries.iter()
     }
 
-    /// Returns the names and values alone, in the order of the names.
+    /// Gives up the object for its names and values, in the order of the names.
     pub(crate) fn into_entries(self) -> Vec<(String, Tree)>
         ensures entries { result.items ≡ self.entries }
         ensures ascending { IsAscending self.entries }

@@ -96,8 +96,9 @@ impl<S: Read + Write + OpenStream + Drop, R: Readiness<S>> Server<S, R> {
         self.output.change(before, connection.standing().output);
     }
 
-    /// Once a second, if links hold as much output as they may, ends those that hold the most of it
-    /// and take no more, until the others hold half.
+    /// Once a second, if links hold as much output as they may, ends at most [`MAX_ENDS`] of them,
+    /// the largest buffer first, until half of the limit is free: links above an equal share that
+    /// have sent everything, or whose stream took nothing for long.
     #[tactic(auto, using(crate::proofs::Rules::advances))]
     pub(super) fn relieve<J: ConnectionLog>(&mut self, alloc: Global, before: u64, log: &mut J)
         ensures { KeepsFewer S.remaining S.contents self.old self.new }

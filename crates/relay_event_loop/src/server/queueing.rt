@@ -60,9 +60,9 @@ impl<S: Read + Write + OpenStream + Drop, R: Readiness<S>> Server<S, R> {
         self.queue_each_told();
     }
 
-    /// Notes a text that no connection sent, which has so many bytes: that of a visit, or a will,
-    /// which counts as one without bytes, since the hub does not say how long it is. If it told
-    /// somebody something, its room was said more, and those are queued for a write turn.
+    /// Notes the text of a visit, or a will, with its size in bytes (0 for a will, since the hub
+    /// does not tell it). If it notified watchers, it counts for their room, and they are queued
+    /// for a write turn.
     #[tactic(auto, using(crate::proofs::Rules::advances))]
     pub(super) fn queue_told_unsent(&mut self, bytes: u64)
         ensures { KeepsFewer S.remaining S.contents self.old self.new }
@@ -85,8 +85,8 @@ impl<S: Read + Write + OpenStream + Drop, R: Readiness<S>> Server<S, R> {
         }
     }
 
-    /// The index of the room of those whom the last text or will told something, if it told
-    /// somebody, and memory sufficed to find out whom.
+    /// The index of the room of the watchers that the last text or will notified. `None` if there
+    /// are none, or if memory was refused for the list of them.
     fn told_room(&self) -> Option<usize> {
         let told = self.hub.told();
         self.hub.room_of(*told.sessions.first()?)

@@ -10,11 +10,11 @@ use std::alloc::Global;
 use std::io::{Read, Write};
 use std::net::OpenStream;
 
-/// What the read turns and the wills of a round cost together, in microseconds, before it begins no
-/// other, but for one of a connection that owes and one will.
+/// The cost in microseconds at which a round begins no further read turn and no further will. One
+/// turn of a connection that owes, and one will, are always allowed.
 pub(super) const ROUND_COST: u64 = 5_000;
 
-/// How many passes a round may make: each but the last costs a microsecond at least.
+/// A bound for loops that stop by cost: each step but the last costs a microsecond at least.
 pub(super) const MAX_PASSES: u64 = ROUND_COST;
 
 /// What a turn costs at least, in microseconds.

@@ -85,8 +85,8 @@ impl<S: Read + Write + OpenStream + Drop, R: Readiness<S>> Server<S, R> {
     }
 
     /// How many messages a write turn for such output may draw, if there may be something to write.
-    /// A long snapshot does not go with what is corked, nor to whom is gone, nor once links hold as
-    /// much output as they may.
+    /// A long snapshot is not drawn in three cases: for corked output, for a peer that has closed,
+    /// and while the links hold as much output as they may.
     fn draws(&self, key: usize, output: Output) -> Option<u64> {
         let connection = self.connections.get(key)?;
         let ready = connection.readiness.ready();

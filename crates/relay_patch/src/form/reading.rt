@@ -18,10 +18,10 @@ use std::alloc::Global;
 
 impl Patch {
     /// Reads a tree as a patch. Members that an operation does not need are ignored. The first
-    /// fault is returned: of the list, then of its elements in order. Each element is checked for
-    /// `op`, `path`, the `value` or `from` that its operation needs, and then for the pointers
-    /// `path` and `from`. Costs a copy of the tree. Allocates nothing if the tree is not a list or
-    /// is too long.
+    /// fault is returned: of the list, then of its elements in order. Each element is checked in
+    /// this order: a string `op`, a known operation, a string `path`, the `value` or `from` that it
+    /// needs, then the pointers `path` and `from`. Costs a copy of the tree. Allocates nothing if
+    /// the tree is not a list or is too long.
     ///
     /// ```
     /// let ops = read(alloc, r#"[{"op": "remove", "path": "/a"}, {"op": "remove"}]"#).ok()?;
