@@ -110,7 +110,7 @@ module _ {S R : Type 0} (remaining contents : S → Option (List ℕ)) where
   -- from one server to another: the hub advances, and the limit on connections stays
   abbrev pub Keeps : Server S R → Server S R → Type 0
   Keeps old new =
-      (new.most ≡ old.most)
+      (new.max_connections ≡ old.max_connections)
       × Advances (left_of remaining) (contents_of contents) old.hub (links_of old.connections)
       new.hub (links_of new.connections)
 

@@ -12,7 +12,7 @@ connections_of s = slab_len s.connections
 
 -- how many connections a server may hold
 abbrev pub limit_of : {S R : Type 0} → Server S R → ℕ
-limit_of s = s.most
+limit_of s = s.max_connections
 
 -- how many rounds a server has made
 abbrev pub made_by : {S R : Type 0} → Server S R → ℕ
@@ -35,6 +35,6 @@ connection_limit sessions = min (2 ^ 64 - 1) (sessions + max (sessions / 4) 64)
 
 -- whether the hub has space for a reply to a link with this session; a link without a session needs
 -- none
-abbrev pub has_room : State → Option ℕ → Bool
-has_room hub (Some s) = may_hear (session_of hub s)
-has_room hub None = true
+abbrev pub has_space : State → Option ℕ → Bool
+has_space hub (Some s) = may_hear (session_of hub s)
+has_space hub None = true

@@ -4,7 +4,7 @@ ghost use Rattle.std.specs.Prelude.{◌≡◌, ◌↔◌, ◌&&◌, ◌||◌, If
 ghost use Rattle.relay_link.specs.Stage.{stage_of, session_of, is_idle};
 ghost use Rattle.relay_link.specs.declared.stage.Stage.TheVariants.{Closing};
 ghost use Rattle.relay_event_loop.specs.Advances.{IsNew};
-ghost use Rattle.relay_event_loop.specs.Connections.{has_room};
+ghost use Rattle.relay_event_loop.specs.Connections.{has_space};
 
 use crate::connection_log::{ConnectionId, HandshakeRefusal, RoomSession};
 use crate::ready::{StreamReadiness, TrackedStream};
@@ -159,7 +159,7 @@ impl<S: Read + Write + Drop> Connection<S> {
 
     /// Notes whether its room counts it among those that wait to be written to. Returns whether it
     /// did before.
-    pub(crate) fn count(&self, is_counted: bool) -> bool {
+    pub(crate) fn set_counted(&self, is_counted: bool) -> bool {
         let mut standing = self.standing.get();
         let was_counted = standing.is_counted;
         standing.is_counted = is_counted;
@@ -214,7 +214,7 @@ impl<S: Read + Write + Drop> Connection<S> {
     /// the hub has space for a reply.
     pub(crate) fn may_read(&self, hub: &Hub) -> bool
         ensures { result ≡ (self.now.read_pending || not (is_idle self.now.link))
-            && has_room hub.now (session_of self.now.link) }
+            && has_space hub.now (session_of self.now.link) }
     {
         if !self.read_pending && self.link.is_idle() {
             return false;
@@ -266,7 +266,7 @@ impl<S: Read + Write + Drop> Connection<S> {
     }
 
     /// Whether the connection has no session: none was opened, or it is closed.
-    pub(crate) fn is_unserved(&self) -> bool
+    pub(crate) fn has_no_session(&self) -> bool
         ensures { result ≡ is_none (session_of self.now.link) }
     {
         self.link.session().is_none()

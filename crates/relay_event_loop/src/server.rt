@@ -67,13 +67,13 @@ pub struct Server<S: Write + Drop, R> {
     /// The rooms from which clients were turned away.
     wanted: WantedRooms,
     /// The maximum number of connections.
-    most: usize,
+    max_connections: usize,
     readiness: R,
     events: Vec<ReadyEvent>,
     /// Whether a connection may wait to be accepted.
     accept_ready: bool,
     /// Whether the last accept failed by another error than `WouldBlock`.
-    failed: bool,
+    accept_failed: bool,
     /// The connections that may have a turn.
     queues: Queues,
     /// How far each room is read ahead.
@@ -83,9 +83,9 @@ pub struct Server<S: Write + Drop, R> {
     /// What all links hold of output.
     output: OutputTotal,
     /// How many texts were passed to the hub.
-    texts: u64,
+    texts_heard: u64,
     /// How many wills were done.
-    wills: u64,
+    wills_done: u64,
     /// The key of the connection that has a session, by the session's number.
     sessions: IndexMap<u64, usize>,
     rounds: u64,
@@ -94,7 +94,7 @@ pub struct Server<S: Write + Drop, R> {
     /// The first round in which the log may say again that memory was refused.
     next_shed_entry: u64,
     /// The `arrival` of the next connection.
-    accepted: u64,
+    next_arrival: u64,
 }
 
 impl<S: Read + Write + OpenStream + Drop, R: Readiness<S>> Server<S, R> {
@@ -115,22 +115,22 @@ impl<S: Read + Write + OpenStream + Drop, R: Readiness<S>> Server<S, R> {
             connections: Slab::new(alloc),
             entrance: Entrance::Open,
             wanted: WantedRooms::new(alloc),
-            most: connection_limit(config.sessions),
+            max_connections: connection_limit(config.sessions),
             readiness,
             events: Vec::new(alloc),
             accept_ready: true,
-            failed: false,
+            accept_failed: false,
             queues: Queues::new(alloc),
             rooms: RoomShares::new(alloc, share_limits(config)),
             vacancies: RoomVacancies::new(alloc),
             output: OutputTotal::within(most_output),
-            texts: 0,
-            wills: 0,
+            texts_heard: 0,
+            wills_done: 0,
             sessions: IndexMap::new(alloc),
             rounds: 0,
             seconds: 0,
             next_shed_entry: 0,
-            accepted: 0,
+            next_arrival: 0,
         }
     }
 
@@ -224,7 +224,7 @@ impl<S: Read + Write + OpenStream + Drop, R: Readiness<S>> Server<S, R> {
     }
 
     /// An upper bound of the keys, exclusive.
-    fn keys(&self) -> usize {
+    fn key_limit(&self) -> usize {
         self.connections.capacity()
     }
 }

@@ -214,7 +214,7 @@ fn notify(
         }
         Err(_) => {
             session.take_update(Update::Snapshot);
-            session.lacked_memory();
+            session.note_refused_memory();
             Err(AllocError)
         }
     }

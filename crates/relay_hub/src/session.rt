@@ -269,7 +269,7 @@ impl Session {
     }
 
     /// Notes that the snapshot is due because memory was refused. Allocates nothing.
-    pub fn lacked_memory(&mut self)
+    pub fn note_refused_memory(&mut self)
         ensures { self.new ≡ self.old }
     {
         self.due_for = SnapshotCause::Memory;

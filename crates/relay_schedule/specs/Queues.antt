@@ -89,9 +89,10 @@ without_held_back queues = record queues { held_back = without_first queues.held
 abbrev pub without_closing : Queues → Queues
 without_closing queues = record queues { closing = without_first queues.closing }
 
--- no key waits for a turn, but for those that are held back or closing
-abbrev pub none_waits : Queues → Bool
-none_waits queues = are_empty queues.ready && is_empty queues.corked && is_empty queues.waiting
+-- a key waits for a turn that can be given now, so that it is neither held back nor closing
+abbrev pub some_waits : Queues → Bool
+some_waits queues =
+    not (are_empty queues.ready) || not (is_empty queues.corked) || not (is_empty queues.waiting)
 
 -- whether a key waits for each turn that its connection wants: for corked output it may wait among
 -- all others, and for messages it may be held back

@@ -41,7 +41,7 @@ pub struct Queues {
 impl Queues {
     ghost use Rattle.std.specs.Prelude.{◌≡◌, IsOk, OnOk, OnErr, length};
     ghost use Rattle.relay_schedule.specs.Queue.{first};
-    ghost use Rattle.relay_schedule.specs.Queues.{AllAdmit, EachMayAdmit, no_queues, all_admitting, queued_for, with_writer, writers, without_writer, held_back, closing, with_held_back, without_held_back, without_closing, none_waits, waits_for};
+    ghost use Rattle.relay_schedule.specs.Queues.{AllAdmit, EachMayAdmit, no_queues, all_admitting, queued_for, with_writer, writers, without_writer, held_back, closing, with_held_back, without_held_back, without_closing, some_waits, waits_for};
 
     /// Queues without keys, which admit none.
     pub fn new(alloc: Global) -> Queues
@@ -154,11 +154,12 @@ impl Queues {
         }
     }
 
-    /// Whether no key waits for a turn, but for those that are held back or closing.
-    pub fn is_empty(&self) -> bool
-        ensures { result ≡ none_waits self.now }
+    /// Whether a key waits for a turn that can be given now, so that it is neither held back nor
+    /// closing.
+    pub fn has_work(&self) -> bool
+        ensures { result ≡ some_waits self.now }
     {
-        self.ready.is_empty() && self.corked.is_empty() && self.waiting.is_empty()
+        !self.ready.is_empty() || !self.corked.is_empty() || !self.waiting.is_empty()
     }
 
     /// Whether a key waits for each turn that its connection wants.

@@ -131,7 +131,7 @@ impl Members {
         ensures entries { self.new.entries ≡ self.old.entries }
         ensures ok { OnOk result (length self.new.entries < self.new.capacity) }
         ensures err { OnErr result (self.new ≡ self.old) }
-        ensures room { length self.old.entries < self.old.capacity → IsOk result }
+        ensures space { length self.old.entries < self.old.capacity → IsOk result }
     {
         let len = self.entries.len();
         if len < self.entries.capacity() {
@@ -147,7 +147,7 @@ impl Members {
             (self.new.entries ≡ insert_entry string_cmp self.old.entries name value) }
         ensures old { IfOk result (λ old. old ≡ value_at self.old.entries (string_bytes name)) }
         ensures err { OnErr result (self.new ≡ self.old) }
-        ensures room { length self.old.entries < self.old.capacity → IsOk result }
+        ensures space { length self.old.entries < self.old.capacity → IsOk result }
         ensures ascending { IsAscending self.old.entries }
     {
         match self.find(name.as_str()) {
@@ -196,7 +196,7 @@ impl Members {
     fn move_to(&mut self, spare: Members)
         requires { length self.old.entries < spare.capacity }
         ensures entries { self.new.entries ≡ self.old.entries }
-        ensures room { length self.new.entries < self.new.capacity }
+        ensures space { length self.new.entries < self.new.capacity }
     {
         let mut whole = spare.entries;
         whole.clear();

@@ -38,7 +38,7 @@ impl<S: Read + Write + OpenStream + Drop, R: Readiness<S>> Server<S, R> {
                 }
                 Err(error) => {
                     self.accept_ready = false;
-                    self.failed = error.kind() != ErrorKind::WouldBlock;
+                    self.accept_failed = error.kind() != ErrorKind::WouldBlock;
                 }
             }
         }
@@ -49,21 +49,21 @@ impl<S: Read + Write + OpenStream + Drop, R: Readiness<S>> Server<S, R> {
     fn evict<J: ConnectionLog>(&mut self, alloc: Global, log: &mut J)
         ensures { KeepsFewer S.remaining S.contents self.old self.new }
     {
-        if self.connections.len() < self.most {
+        if self.connections.len() < self.max_connections {
             return;
         }
-        if let Some(key) = self.first_unserved() {
+        if let Some(key) = self.oldest_without_session() {
             self.end_link(alloc, key, EndCause::Ended, &mut EvictionLog::to(log));
         }
     }
 
     /// The key of the oldest connection without a session.
-    fn first_unserved(&self) -> Option<usize> {
+    fn oldest_without_session(&self) -> Option<usize> {
         let mut first = None;
         let mut least = u64::MAX;
-        for key in 0..self.keys() {
+        for key in 0..self.key_limit() {
             if let Some(connection) = self.connections.get(key) {
-                if connection.is_unserved() && connection.arrival < least {
+                if connection.has_no_session() && connection.arrival < least {
                     first = Some(key);
                     least = connection.arrival;
                 }
@@ -90,7 +90,7 @@ impl<S: Read + Write + OpenStream + Drop, R: Readiness<S>> Server<S, R> {
     fn add(&mut self, alloc: Global, stream: S, peer: SocketAddr) -> Result<(), AllocError>
         ensures { KeepsWithin S.remaining S.contents self.old self.new }
     {
-        if self.connections.len() >= self.most || stream.set_nonblocking(true).is_err() {
+        if self.connections.len() >= self.max_connections || stream.set_nonblocking(true).is_err() {
             return Ok(());
         }
         let _ = stream.set_nodelay(true);
@@ -100,8 +100,8 @@ impl<S: Read + Write + OpenStream + Drop, R: Readiness<S>> Server<S, R> {
         }
         self.queues.admit(key)?;
         reserve(&mut self.sessions, self.connections.len())?;
-        let arrival = self.accepted;
-        self.accepted = self.accepted.saturating_add(1);
+        let arrival = self.next_arrival;
+        self.next_arrival = self.next_arrival.saturating_add(1);
         let credit = Credit::of_new(self.queues.ready.round());
         let connection = Connection::new(alloc, stream, peer, credit, arrival, self.rounds)?;
         self.connections.insert(connection)?;

@@ -17,10 +17,10 @@ use std::net::{OpenListener, OpenStream};
 use std::time::{Clock, Duration};
 
 /// For how many seconds a server that stops tells its clients what waits for them.
-const FAREWELL: u64 = 5;
+const DRAIN_SECONDS: u64 = 5;
 
 /// How many passes are enough for that, however short they are.
-const FAREWELLS: u64 = 1_000_000;
+const MAX_DRAIN_PASSES: u64 = 1_000_000;
 
 impl<S, R, C> Server<S, AdminReadiness<'_, R, C>>
 where
@@ -103,8 +103,8 @@ where
             left: self.vacancies.empty.as_slice(),
             second: self.seconds,
             connections: self.connections.len() as u64,
-            max_connections: self.most as u64,
-            wills: self.wills,
+            max_connections: self.max_connections as u64,
+            wills: self.wills_done,
             rounds: self.rounds,
             longest_round: self.readiness.longest_round(),
         };
@@ -187,8 +187,8 @@ where
         let until = self
             .readiness
             .now()
-            .saturating_add(Duration::from_secs(FAREWELL));
-        for _ in 0..FAREWELLS {
+            .saturating_add(Duration::from_secs(DRAIN_SECONDS));
+        for _ in 0..MAX_DRAIN_PASSES {
             if !self.has_waiting() || self.readiness.now() >= until {
                 return;
             }
@@ -201,7 +201,7 @@ where
 
     /// Whether anything waits to be written to a session that is open.
     fn has_waiting(&self) -> bool {
-        for key in 0..self.keys() {
+        for key in 0..self.key_limit() {
             if let Some(connection) = self.connections.get(key) {
                 if connection.has_unsent(&self.hub) {
                     return true;

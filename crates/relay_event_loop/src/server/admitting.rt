@@ -87,7 +87,7 @@ impl<S: Read + Write + OpenStream + Drop, R: Readiness<S>> Server<S, R> {
     fn end_those_in<J: ConnectionLog>(&mut self, alloc: Global, room: &str, log: &mut J)
         ensures { KeepsFewer S.remaining S.contents self.old self.new }
     {
-        for key in 0..self.keys() {
+        for key in 0..self.key_limit() {
             if self.is_in(key, room) {
                 self.end_link(alloc, key, EndCause::Ended, log);
             }
@@ -98,7 +98,7 @@ impl<S: Read + Write + OpenStream + Drop, R: Readiness<S>> Server<S, R> {
     fn is_in(&self, key: usize, room: &str) -> bool {
         match self.connections.get(key) {
             Some(connection) => {
-                !connection.is_unserved()
+                !connection.has_no_session()
                     && matches!(connection.opened(), Some(opened) if opened.room == room)
             }
             None => false,

@@ -31,7 +31,7 @@ impl<S: Read + Write + OpenStream + Drop, R: Readiness<S>> Server<S, R> {
         ensures limit { limit_of self.new ≡ limit_of self.old }
         ensures fewer { connections_of self.new ≤ connections_of self.old }
     {
-        for key in 0..self.keys() {
+        for key in 0..self.key_limit() {
             self.end_link(alloc, key, EndCause::Ended, log);
         }
         let _ = self.finish_wills(alloc, log);
@@ -121,7 +121,7 @@ impl<S: Read + Write + OpenStream + Drop, R: Readiness<S>> Server<S, R> {
     fn first_to_end(&self) -> Option<usize> {
         let mut first = None;
         let mut most = self.output.share(self.connections.len()).saturating_sub(1);
-        for key in 0..self.keys() {
+        for key in 0..self.key_limit() {
             if let Some(connection) = self.connections.get(key) {
                 let output = connection.standing().output;
                 if output.held > most && output.is_over_due(self.seconds) {
@@ -187,7 +187,7 @@ impl<S: Read + Write + OpenStream + Drop, R: Readiness<S>> Server<S, R> {
         if let Some(index) = connection.room_index() {
             self.vacancies.empty.note_left(index, self.seconds);
         }
-        self.vacancies.have_changed = true;
+        self.vacancies.is_check_due = true;
     }
 
     /// Puts the session of a connection into the map, if it has one, for which there is memory.
@@ -202,7 +202,7 @@ impl<S: Read + Write + OpenStream + Drop, R: Readiness<S>> Server<S, R> {
         if let Some(session) = connection.link.session() {
             let _ = self.sessions.insert(session, key);
         }
-        self.vacancies.have_changed = true;
+        self.vacancies.is_check_due = true;
         match connection.room_index() {
             Some(index) => {
                 self.rooms.admit(index).is_ok() && self.vacancies.empty.admit(index).is_ok()

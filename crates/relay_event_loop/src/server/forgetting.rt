@@ -24,9 +24,9 @@ pub(super) struct RoomVacancies {
     /// Since when they are empty.
     pub empty: EmptyRooms,
     /// Whether the server forgets rooms.
-    pub are_forgotten: bool,
+    pub is_enabled: bool,
     /// Whether a session was opened or closed since a room was last sought.
-    pub have_changed: bool,
+    pub is_check_due: bool,
     /// The index of the room that was forgotten last, and the revision at which it began anew.
     vacated: Option<(usize, u64)>,
 }
@@ -36,8 +36,8 @@ impl RoomVacancies {
     pub fn new(alloc: Global) -> RoomVacancies {
         RoomVacancies {
             empty: EmptyRooms::new(alloc),
-            are_forgotten: false,
-            have_changed: false,
+            is_enabled: false,
+            is_check_due: false,
             vacated: None,
         }
     }
@@ -55,8 +55,8 @@ impl<S: Read + Write + OpenStream + Drop, R: Readiness<S>> Server<S, R> {
         ensures connections { connections_of self.new ≡ connections_of self.old }
         ensures rounds { RoundsOf S.remaining S.contents self.old self.new }
     {
-        self.vacancies.are_forgotten = true;
-        self.vacancies.have_changed = true;
+        self.vacancies.is_enabled = true;
+        self.vacancies.is_check_due = true;
     }
 
     /// Forgets the room that has been empty for the longest time, if the server forgets rooms, and
@@ -65,16 +65,16 @@ impl<S: Read + Write + OpenStream + Drop, R: Readiness<S>> Server<S, R> {
     pub(super) fn make_room<J: ConnectionLog>(&mut self, alloc: Global, log: &mut J)
         ensures { KeepsFewer S.remaining S.contents self.old self.new }
     {
-        if !self.vacancies.are_forgotten || !self.vacancies.have_changed || self.hub.has_wills() {
+        if !self.vacancies.is_enabled || !self.vacancies.is_check_due || self.hub.has_wills() {
             return;
         }
-        self.vacancies.have_changed = false;
+        self.vacancies.is_check_due = false;
         if self.is_room_left() {
             return;
         }
         if let Some(index) = self.longest_empty() {
             if self.forget_at(alloc, index).is_err() {
-                self.vacancies.have_changed = true;
+                self.vacancies.is_check_due = true;
                 self.shed(log);
             }
         }

@@ -32,8 +32,8 @@ impl<S: Read + Write + OpenStream + Drop, R: Readiness<S>> Server<S, R> {
                 self.apply(event);
             }
         }
-        if self.failed {
-            self.failed = false;
+        if self.accept_failed {
+            self.accept_failed = false;
             self.accept_ready = true;
         }
     }
@@ -42,7 +42,7 @@ impl<S: Read + Write + OpenStream + Drop, R: Readiness<S>> Server<S, R> {
     fn has_work(&self) -> bool {
         self.accept_ready
             || self.hub.has_wills()
-            || !self.queues.is_empty()
+            || self.queues.has_work()
             || (self.queues.held_back() > 0 && !self.output.is_full())
     }
 
@@ -69,7 +69,7 @@ impl<S: Read + Write + OpenStream + Drop, R: Readiness<S>> Server<S, R> {
         ensures { KeepsFewer S.remaining S.contents self.old self.new }
     {
         self.accept_ready = true;
-        for key in 0..self.keys() {
+        for key in 0..self.key_limit() {
             self.announce(key, StreamReady::ALL);
         }
     }

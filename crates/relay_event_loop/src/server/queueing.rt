@@ -21,7 +21,7 @@ impl<S: Read + Write + OpenStream + Drop, R: Readiness<S>> Server<S, R> {
     /// The first connection that wants a turn for which it is not queued. A round leaves none, so
     /// that the next one need not walk over all connections as this does: it is for tests.
     pub fn unqueued(&self) -> Option<usize> {
-        for key in 0..self.keys() {
+        for key in 0..self.key_limit() {
             if let Some(connection) = self.connections.get(key) {
                 if !self.queues.has(key, connection.wants(&self.hub)) {
                     return Some(key);
@@ -53,7 +53,7 @@ impl<S: Read + Write + OpenStream + Drop, R: Readiness<S>> Server<S, R> {
     pub(super) fn queue_told(&mut self, key: usize, turn: &Turn)
         ensures { KeepsFewer S.remaining S.contents self.old self.new }
     {
-        self.texts = self.texts.saturating_add(1);
+        self.texts_heard = self.texts_heard.saturating_add(1);
         if let Some(room) = self.room_index(key) {
             self.rooms.add_text(room, turn.received());
         }
@@ -64,7 +64,7 @@ impl<S: Read + Write + OpenStream + Drop, R: Readiness<S>> Server<S, R> {
     /// does not tell it). If it notified watchers, it counts for their room, and they are queued
     /// for a write turn.
     #[tactic(auto, using(crate::proofs::Rules::advances))]
-    pub(super) fn queue_told_unsent(&mut self, bytes: u64)
+    pub(super) fn queue_after_visit_or_will(&mut self, bytes: u64)
         ensures { KeepsFewer S.remaining S.contents self.old self.new }
     {
         if let Some(room) = self.told_room() {
@@ -110,7 +110,7 @@ impl<S: Read + Write + OpenStream + Drop, R: Readiness<S>> Server<S, R> {
     fn told(&self) -> usize {
         let told = self.hub.told();
         if told.all {
-            self.keys()
+            self.key_limit()
         } else {
             told.sessions.len()
         }
@@ -156,14 +156,14 @@ pub(super) fn uncount_writer<S: Read + Write + Drop>(
     rooms: &mut RoomShares,
     connection: &Connection<S>,
 ) {
-    if let (true, Some(index)) = (connection.count(false), connection.room_index()) {
+    if let (true, Some(index)) = (connection.set_counted(false), connection.room_index()) {
         rooms.take_writer(index);
     }
 }
 
 /// Notes that a connection waits to be written to, once.
 fn count_writer<S: Read + Write + Drop>(rooms: &mut RoomShares, connection: &Connection<S>) {
-    if let (false, Some(index)) = (connection.count(true), connection.room_index()) {
+    if let (false, Some(index)) = (connection.set_counted(true), connection.room_index()) {
         rooms.add_writer(index);
     }
 }

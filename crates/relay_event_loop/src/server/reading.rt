@@ -36,9 +36,9 @@ impl<S: Read + Write + OpenStream + Drop, R: Readiness<S>> Server<S, R> {
     {
         let mut spending = Spending::within(ROUND_COST);
         for _ in 0..MAX_PASSES {
-            let before = self.texts;
+            let before = self.texts_heard;
             spending = self.read_each(alloc, spending, log);
-            if self.texts == before {
+            if self.texts_heard == before {
                 return spending;
             }
         }
@@ -98,13 +98,13 @@ impl<S: Read + Write + OpenStream + Drop, R: Readiness<S>> Server<S, R> {
     {
         let mut spending = before;
         for _ in 0..MAX_PASSES {
-            let texts = self.texts;
+            let texts = self.texts_heard;
             spending = self.read_each_owing(alloc, spending, log);
             if spending == before || !spending.allows_more() {
                 return spending;
             }
             spending = self.read_each(alloc, spending, log);
-            if self.texts == texts {
+            if self.texts_heard == texts {
                 return spending;
             }
         }

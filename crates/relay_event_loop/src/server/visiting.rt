@@ -74,8 +74,8 @@ impl<S: Read + Write + OpenStream + Drop, R: Readiness<S>> Server<S, R> {
             self.note_visited(index, log);
         }
         if visit.outcome.is_heard() {
-            self.texts = self.texts.saturating_add(1);
-            self.queue_told_unsent(bytes);
+            self.texts_heard = self.texts_heard.saturating_add(1);
+            self.queue_after_visit_or_will(bytes);
         }
         if visit.outcome.lacked_memory() {
             self.shed(log);
@@ -88,7 +88,7 @@ impl<S: Read + Write + OpenStream + Drop, R: Readiness<S>> Server<S, R> {
     fn note_visited<J: ConnectionLog>(&mut self, index: usize, log: &mut J)
         ensures { KeepsFewer S.remaining S.contents self.old self.new }
     {
-        self.vacancies.have_changed = true;
+        self.vacancies.is_check_due = true;
         let admitted = self.vacancies.empty.admit(index);
         self.vacancies.empty.note_left(index, self.seconds);
         if admitted.is_err() {

@@ -80,8 +80,8 @@ impl<S: Read + Write + OpenStream + Drop, R: Readiness<S>> Server<S, R> {
         if !is_done {
             return None;
         }
-        self.wills = self.wills.saturating_add(1);
-        self.queue_told_unsent(0);
+        self.wills_done = self.wills_done.saturating_add(1);
+        self.queue_after_visit_or_will(0);
         let cost = self.hub.cost().saturating_sub(before);
         Some(cost.saturating_add(TURN_COST))
     }
