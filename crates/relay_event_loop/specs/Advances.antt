@@ -40,6 +40,10 @@ Sessions = ℕ → Option ℕ
 abbrev pub sessions_in : {S : Type 0} → Links S → Sessions
 sessions_in links key = option_and_then session_of (links key)
 
+-- there is a link at that key, and it has no session
+abbrev pub HasNoSession : {S : Type 0} → Links S → ℕ → Type 0
+HasNoSession {S} links key = (link : Link S) × (links key ≡ Some link) × (session_of link ≡ None)
+
 -- the link waits for a head, and has received nothing
 abbrev pub IsNew : {S : Type 0} → Link S → Type 0
 IsNew (Head stream bytes) = bytes.items ≡ []

@@ -3,8 +3,8 @@
 ghost use Rattle.std.specs.Prelude.{◌≡◌, ◌↔◌, ◌&&◌, ◌||◌, IfOk, IsTrue, is_none, not};
 ghost use Rattle.relay_link.specs.Stage.{stage_of, session_of, is_idle};
 ghost use Rattle.relay_link.specs.declared.stage.Stage.TheVariants.{Closing};
-ghost use Rattle.relay_event_loop.specs.Advances.{IsNew};
 ghost use Rattle.relay_event_loop.specs.Connections.{has_space};
+ghost use Rattle.relay_event_loop.specs.Ready.{IsFreshOn};
 
 use crate::connection_log::{ConnectionId, HandshakeRefusal, RoomSession};
 use crate::ready::{StreamReadiness, TrackedStream};
@@ -57,8 +57,7 @@ pub(crate) struct Connection<S: Write + Drop> {
 }
 
 impl<S: Read + Write + Drop> Connection<S> {
-    /// A connection that was just accepted.
-    #[tactic(auto, using(crate::proofs::Held::new_of))]
+    /// A connection that was just accepted. Nothing is read of its stream, nor written to it.
     pub(crate) fn new(
         alloc: Global,
         stream: S,
@@ -67,7 +66,7 @@ impl<S: Read + Write + Drop> Connection<S> {
         arrival: u64,
         since: u64,
     ) -> Result<Connection<S>, AllocError>
-        ensures { IfOk result (λ connection. IsNew connection.link) }
+        ensures { IfOk result (λ connection. IsFreshOn stream connection.link) }
     {
         let room = String::with_capacity(alloc, MAX_NAME)?;
         let (stream, readiness) = TrackedStream::new(alloc, stream)?;

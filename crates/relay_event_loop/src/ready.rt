@@ -1,5 +1,6 @@
 //! A stream, together with its readiness as the system last reported it, and with how much was read
 //! of it and written to it.
+ghost use Rattle.std.specs.Prelude.{◌≡◌, IfOk};
 ghost use Rattle.relay_event_loop.specs.Ready.{left_of, contents_of};
 
 use relay_operator::StreamReady;
@@ -113,6 +114,7 @@ impl<S> TrackedStream<S> {
     ) -> Result<(TrackedStream<S>, StreamReadiness), AllocError>
     where
         S: Drop,
+        ensures { IfOk result (λ made. made.0.stream ≡ stream) }
     {
         let state = Rc::new(
             alloc,

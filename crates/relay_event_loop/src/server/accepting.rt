@@ -1,5 +1,6 @@
 //! How connections come: who is accepted, and who makes room.
-ghost use Rattle.relay_event_loop.specs.Advances.{KeepsFewer, KeepsWithin};
+ghost use Rattle.std.specs.Prelude.{IfSome};
+ghost use Rattle.relay_event_loop.specs.Advances.{KeepsFewer, KeepsWithin, HasNoSession, links_of};
 
 use super::Server;
 use crate::connection::Connection;
@@ -58,7 +59,9 @@ impl<S: Read + Write + OpenStream + Drop, R: Readiness<S>> Server<S, R> {
     }
 
     /// The key of the oldest connection without a session.
-    fn oldest_without_session(&self) -> Option<usize> {
+    fn oldest_without_session(&self) -> Option<usize>
+        ensures { IfSome result (λ key. HasNoSession (links_of self.now.connections) key) }
+    {
         let mut first = None;
         let mut least = u64::MAX;
         for key in 0..self.key_limit() {

@@ -1,6 +1,6 @@
 -- The connection is added where there was none, and there was room for it.
 use Rattle.std.proofs.Common.{refl, arith}
-use Rattle.relay_event_loop.proofs.Held.{added, none_changed}
+use Rattle.relay_event_loop.proofs.Held.{added, new_of, none_changed}
 use Rattle.relay_event_loop.proofs.server.Server.add.Goals as goal
 
 pub returns : goal.returns
@@ -9,7 +9,7 @@ returns g c = (
     refl,
     added c.args.self.now.connections c.insert.new.self _ _ c.args.self.now.hub
         c.in_ok-insert.ensures.was_vacant c.in_ok-insert.ensures.updates
-        c.in_ok-connection.ensures,
+        (new_of c.in_ok-connection.ensures.0 _ c.in_ok-connection.ensures.2),
   ),
   refl,
   λ within.
