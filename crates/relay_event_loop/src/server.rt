@@ -33,6 +33,11 @@ use std::net::{OpenListener, OpenStream};
 
 /// The maximum number of connections that a server holds whose hub allows that number of sessions:
 /// a quarter more, and at least 64 more. The others have no session yet, or none any more.
+///
+/// ```
+/// assert!(rt; connection_limit(256) == 256 + 64);
+/// assert!(rt; connection_limit(4_000) == 4_000 + 1_000);
+/// ```
 pub fn connection_limit(sessions: u64) -> usize
     ensures { result ≡ connection_limit sessions }
 {
@@ -98,6 +103,14 @@ impl<S: Read + Write + OpenStream + Drop, R: Readiness<S>> Server<S, R> {
     /// A server of a hub, with no connection. A room is read ahead by half as many texts as patches
     /// may wait for a session of the hub, and by half as many bytes as these may weigh. Its links
     /// hold as many bytes of output as given, and what one turn draws beyond.
+    ///
+    /// ```
+    /// let script = ReadinessScript::new(alloc);
+    /// let hub = Hub::new(alloc, 1, 1, 64, 32).ok()?;
+    /// let readiness = ScriptedReadiness::of(&script);
+    /// let server: Server<End<'_>, _> = Server::new(alloc, hub, readiness, 1_000_000);
+    /// assert!(rt; server.connections() == 0);
+    /// ```
     #[tactic(auto, using(crate::proofs::Owners::none_connected))]
     pub fn new(alloc: Global, hub: Hub, readiness: R, most_output: u64) -> Server<S, R>
         ensures empty { connections_of result ≡ 0 }
@@ -132,6 +145,17 @@ impl<S: Read + Write + OpenStream + Drop, R: Readiness<S>> Server<S, R> {
 
     /// The number of connections held. It is at most [`connection_limit`], since a round holds no
     /// more.
+    ///
+    /// ```
+    /// let (wire, script) = (Wire::new(alloc), ReadinessScript::new(alloc));
+    /// let listener = MemoryListener::new(alloc);
+    /// let hub = Hub::new(alloc, 1, 1, 64, 32).ok()?;
+    /// let mut server = Server::new(alloc, hub, ScriptedReadiness::of(&script), 1_000_000);
+    /// listener.add(&wire)?;
+    /// server.round(alloc, &listener, &mut NoLog);
+    /// // A connection counts before its handshake has come.
+    /// assert!(rt; server.connections() == 1);
+    /// ```
     pub fn connections(&self) -> usize
         ensures { result ≡ connections_of self.now }
     {
@@ -173,6 +197,17 @@ impl<S: Read + Write + OpenStream + Drop, R: Readiness<S>> Server<S, R> {
     /// than 4,096 is drawn. A link's buffer never shrinks. So in each second the links with the
     /// largest buffers of which nothing waits, or nothing was taken for 30 seconds, are ended,
     /// until the others hold half of what they may.
+    ///
+    /// ```
+    /// let (wire, script) = (Wire::new(alloc), ReadinessScript::new(alloc));
+    /// let listener = MemoryListener::new(alloc);
+    /// let hub = Hub::new(alloc, 1, 1, 64, 32).ok()?;
+    /// let mut server = Server::new(alloc, hub, ScriptedReadiness::of(&script), 1_000_000);
+    /// wire.try_borrow_mut().ok()?.perform(alloc, "asks 13 /other").ok()?;
+    /// listener.add(&wire)?;
+    /// server.round(alloc, &listener, &mut NoLog);
+    /// assert!(rt; wire.try_borrow_mut().ok()?.output.as_slice().starts_with(b"HTTP/1.1 404 "));
+    /// ```
     #[tactic(auto, using(crate::proofs::Rules::rounds))]
     pub fn round<L: OpenListener<Stream = S>, J: ConnectionLog>(
         &mut self,
@@ -198,6 +233,17 @@ impl<S: Read + Write + OpenStream + Drop, R: Readiness<S>> Server<S, R> {
     }
 
     /// Runs that many rounds, and ends every connection as [`Server::end`] does.
+    ///
+    /// ```
+    /// let (wire, script) = (Wire::new(alloc), ReadinessScript::new(alloc));
+    /// let listener = MemoryListener::new(alloc);
+    /// let hub = Hub::new(alloc, 1, 1, 64, 32).ok()?;
+    /// let mut server = Server::new(alloc, hub, ScriptedReadiness::of(&script), 1_000_000);
+    /// wire.try_borrow_mut().ok()?.perform(alloc, "asks 13 /rooms/a").ok()?;
+    /// listener.add(&wire)?;
+    /// server.run(alloc, &listener, 3, &mut NoLog);
+    /// assert!(rt; wire.try_borrow_mut().ok()?.output.as_slice().ends_with(b"\x88\x02\x03\xe9"));
+    /// ```
     #[tactic(auto, using(crate::proofs::Rules::rounds))]
     pub fn run<L: OpenListener<Stream = S>, J: ConnectionLog>(
         &mut self,
