@@ -11,6 +11,11 @@ pub const MAX_NAME: usize = 64;
 
 /// Returns whether the text is a room name: 1 to [`MAX_NAME`] bytes, each an ASCII letter, an ASCII
 /// digit, `-` or `_`. Allocates nothing.
+///
+/// ```
+/// assert!(rt; is_room_name("board_7-A"));
+/// assert!(rt; !is_room_name("") && !is_room_name("two words") && !is_room_name("a/b"));
+/// ```
 pub fn is_room_name(name: &str) -> bool
     ensures { result ≡ is_room_name name.now }
 {

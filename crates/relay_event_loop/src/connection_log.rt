@@ -6,6 +6,15 @@ use std::fmt::{Display, Formatter};
 use std::net::SocketAddr;
 
 /// An event of a connection, or of the server.
+///
+/// ```
+/// let peer = SocketAddr::from((Ipv4Addr::LOCALHOST, 51_240));
+/// let connection = ConnectionId { key: 3, peer };
+/// let entry = LogEntry::Refused { connection, refusal: HandshakeRefusal::SessionsFull };
+/// let fields = format!(in alloc; "{entry}").ok()?;
+/// let wanted = "event=refused peer=127.0.0.1:51240 link=3 status=503 cause=sessions";
+/// assert!(rt; fields.as_str() == wanted);
+/// ```
 #[derive(Clone, Copy, Debug)]
 pub enum LogEntry<'a> {
     /// Its handshake opened a session in a room.
@@ -37,6 +46,13 @@ pub enum LogEntry<'a> {
 
 /// A connection: its key in the server's slab, which a later connection may have again, and the
 /// address of its other side.
+///
+/// ```
+/// let peer = SocketAddr::from((Ipv4Addr::LOCALHOST, 51_234));
+/// let connection = ConnectionId { key: 3, peer };
+/// let fields = format!(in alloc; "{connection}").ok()?;
+/// assert!(rt; fields.as_str() == "peer=127.0.0.1:51234 link=3");
+/// ```
 #[derive(Clone, Copy, Debug)]
 pub struct ConnectionId {
     pub key: usize,
@@ -44,6 +60,12 @@ pub struct ConnectionId {
 }
 
 /// A session and the room in which it is.
+///
+/// ```
+/// let session = RoomSession { number: 17, room: "board" };
+/// let fields = format!(in alloc; "event=opened{session}").ok()?;
+/// assert!(rt; fields.as_str() == "event=opened session=17 room=board");
+/// ```
 #[derive(Clone, Copy, Debug)]
 pub struct RoomSession<'a> {
     pub number: u64,
@@ -51,6 +73,12 @@ pub struct RoomSession<'a> {
 }
 
 /// Why a handshake was refused.
+///
+/// ```
+/// let refusal = HandshakeRefusal::SessionsFull;
+/// let fields = format!(in alloc; "{refusal}").ok()?;
+/// assert!(rt; fields.as_str() == "status=503 cause=sessions");
+/// ```
 #[derive(Clone, Copy, Debug, PartialEq, Eq)]
 pub enum HandshakeRefusal {
     /// Its head asks for no room in the way of the protocol. The reply has this status.
@@ -77,6 +105,11 @@ impl HandshakeRefusal {
     }
 
     /// The status of the reply.
+    ///
+    /// ```
+    /// assert!(rt; HandshakeRefusal::Status(404).status() == 404);
+    /// assert!(rt; HandshakeRefusal::Closed.status() == 503);
+    /// ```
     pub fn status(self) -> u16 {
         match self {
             HandshakeRefusal::Status(status) => status,
@@ -168,6 +201,13 @@ fn cause_word(cause: EndCause) -> &'static str {
 
 /// Receives an entry for each connection that opens, is refused, ends or is evicted, and if memory
 /// was refused.
+///
+/// ```
+/// // A log of the tests, which writes a line for each entry.
+/// let mut log = FieldLines { text: String::new(alloc) };
+/// log.record(LogEntry::OutOfMemory);
+/// assert!(rt; log.text.as_str() == "event=out-of-memory\n");
+/// ```
 pub trait ConnectionLog {
     fn record(&mut self, entry: LogEntry<'_>);
 }

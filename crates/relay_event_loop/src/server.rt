@@ -33,6 +33,11 @@ use std::net::{OpenListener, OpenStream};
 
 /// How many connections a server holds at most if its hub allows so many sessions: a quarter more,
 /// and at least 64 more. The extra ones are in their handshake, or closing.
+///
+/// ```
+/// assert!(rt; connection_limit(256) == 256 + 64);
+/// assert!(rt; connection_limit(4_000) == 4_000 + 1_000);
+/// ```
 pub fn connection_limit(sessions: u64) -> usize
     ensures { result ≡ connection_limit sessions }
 {
@@ -102,6 +107,14 @@ impl<S: Read + Write + OpenStream + Drop, R: Readiness<S>> Server<S, R> {
     /// may wait for a session of the hub, and by half as many bytes as these may weigh. Once its
     /// links hold `most_output` bytes, no large snapshot is drawn; replies, patches and small
     /// snapshots still are.
+    ///
+    /// ```
+    /// let script = ReadinessScript::new(alloc);
+    /// let hub = Hub::new(alloc, 1, 1, 64, 32).ok()?;
+    /// let readiness = ScriptedReadiness::of(&script);
+    /// let server: Server<End<'_>, _> = Server::new(alloc, hub, readiness, 1_000_000);
+    /// assert!(rt; server.connections() == 0);
+    /// ```
     #[tactic(auto, using(crate::proofs::Owners::none_connected))]
     pub fn new(alloc: Global, hub: Hub, readiness: R, most_output: u64) -> Server<S, R>
         ensures empty { connections_of result ≡ 0 }
@@ -136,6 +149,17 @@ impl<S: Read + Write + OpenStream + Drop, R: Readiness<S>> Server<S, R> {
 
     /// The number of connections held. It is at most [`connection_limit`], since a round holds no
     /// more.
+    ///
+    /// ```
+    /// let (wire, script) = (Wire::new(alloc), ReadinessScript::new(alloc));
+    /// let listener = MemoryListener::new(alloc);
+    /// let hub = Hub::new(alloc, 1, 1, 64, 32).ok()?;
+    /// let mut server = Server::new(alloc, hub, ScriptedReadiness::of(&script), 1_000_000);
+    /// listener.add(&wire)?;
+    /// server.round(alloc, &listener, &mut NoLog);
+    /// // A connection counts before its handshake has come.
+    /// assert!(rt; server.connections() == 1);
+    /// ```
     pub fn connections(&self) -> usize
         ensures { result ≡ connections_of self.now }
     {
@@ -178,6 +202,17 @@ impl<S: Read + Write + OpenStream + Drop, R: Readiness<S>> Server<S, R> {
     /// much is held, up to 64 links are ended each second, the largest buffer first: links above an
     /// equal share that have sent everything, or whose stream took nothing for 30 seconds. It stops
     /// once half of the limit is free.
+    ///
+    /// ```
+    /// let (wire, script) = (Wire::new(alloc), ReadinessScript::new(alloc));
+    /// let listener = MemoryListener::new(alloc);
+    /// let hub = Hub::new(alloc, 1, 1, 64, 32).ok()?;
+    /// let mut server = Server::new(alloc, hub, ScriptedReadiness::of(&script), 1_000_000);
+    /// wire.try_borrow_mut().ok()?.perform(alloc, "asks 13 /other").ok()?;
+    /// listener.add(&wire)?;
+    /// server.round(alloc, &listener, &mut NoLog);
+    /// assert!(rt; wire.try_borrow_mut().ok()?.output.as_slice().starts_with(b"HTTP/1.1 404 "));
+    /// ```
     #[tactic(auto, using(crate::proofs::Rules::rounds))]
     pub fn round<L: OpenListener<Stream = S>, J: ConnectionLog>(
         &mut self,
@@ -203,6 +238,17 @@ impl<S: Read + Write + OpenStream + Drop, R: Readiness<S>> Server<S, R> {
     }
 
     /// Runs that many rounds, and ends every connection as [`Server::end`] does.
+    ///
+    /// ```
+    /// let (wire, script) = (Wire::new(alloc), ReadinessScript::new(alloc));
+    /// let listener = MemoryListener::new(alloc);
+    /// let hub = Hub::new(alloc, 1, 1, 64, 32).ok()?;
+    /// let mut server = Server::new(alloc, hub, ScriptedReadiness::of(&script), 1_000_000);
+    /// wire.try_borrow_mut().ok()?.perform(alloc, "asks 13 /rooms/a").ok()?;
+    /// listener.add(&wire)?;
+    /// server.run(alloc, &listener, 3, &mut NoLog);
+    /// assert!(rt; wire.try_borrow_mut().ok()?.output.as_slice().ends_with(b"\x88\x02\x03\xe9"));
+    /// ```
     #[tactic(auto, using(crate::proofs::Rules::rounds))]
     pub fn run<L: OpenListener<Stream = S>, J: ConnectionLog>(
         &mut self,

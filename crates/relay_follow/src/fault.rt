@@ -2,6 +2,14 @@
 use thiserror::Error;
 
 /// The reason why a text is refused, in the order of the checks. The follower is unchanged.
+///
+/// ```
+/// let mut follower = Follower::new();
+/// let patch = r#"{"kind":"patch","patch":[],"rev":2}"#;
+/// assert!(rt; follower.hear(alloc, patch) == Err(HearFault::NoView));
+/// follower.hear(alloc, r#"{"kind":"snapshot","rev":2,"view":[]}"#).ok()?;
+/// assert!(rt; follower.hear(alloc, patch) == Err(HearFault::Order));
+/// ```
 #[derive(Clone, Copy, Debug, PartialEq, Eq, Error)]
 pub enum HearFault {
     #[error("not a message")]

@@ -4,6 +4,14 @@ use std::marker::Model;
 
 /// A client's view: nothing, or a revision and the view of that revision. Contracts see it as that
 /// option.
+///
+/// ```
+/// let mut follower = Follower::new();
+/// follower.hear(alloc, r#"{"id":2,"kind":"watching"}"#).ok()?;
+/// assert!(rt; follower.view().is_none());
+/// follower.hear(alloc, r#"{"kind":"snapshot","rev":1,"view":[[[]]]}"#).ok()?;
+/// assert!(rt; follower.view()?.text(alloc).ok()?.as_str() == "[[[]]]");
+/// ```
 #[derive(Drop)]
 pub struct Follower {
     pub(crate) held: Option<(u64, Tree)>,
@@ -27,6 +35,11 @@ impl Follower {
     ghost use Rattle.std.specs.Prelude.{◌≡◌, None, Some, option_map, option_copied};
 
     /// Creates a follower that holds nothing. Allocates nothing.
+    ///
+    /// ```
+    /// let follower = Follower::new();
+    /// assert!(rt; follower.rev() == None && follower.view().is_none());
+    /// ```
     pub fn new() -> Follower
         ensures { result ≡ None }
     {
@@ -35,6 +48,13 @@ impl Follower {
 
     /// Creates a follower that holds the view of a revision, as a client does that resumes.
     /// Allocates nothing.
+    ///
+    /// ```
+    /// let mut follower = Follower::from_view(3, read(alloc, r#"[["a"]]"#).ok()?);
+    /// let patch = r#"{"kind":"patch","patch":[{"op":"remove","path":"/0/0"}],"rev":4}"#;
+    /// follower.hear(alloc, patch).ok()?;
+    /// assert!(rt; follower.view()?.text(alloc).ok()?.as_str() == "[[]]");
+    /// ```
     pub fn from_view(rev: u64, tree: Tree) -> Follower
         ensures { result ≡ Some (rev, tree) }
     {
@@ -44,6 +64,11 @@ impl Follower {
     }
 
     /// Returns the held view, the list of its slots, or `None` if none is held. Allocates nothing.
+    ///
+    /// ```
+    /// let follower = Follower::from_view(3, read(alloc, "[[7]]").ok()?);
+    /// assert!(rt; follower.view()?.text(alloc).ok()?.as_str() == "[[7]]");
+    /// ```
     pub fn view(&self) -> Option<&Tree>
         ensures { option_copied result ≡ option_map (λ held. held.1) self.now }
     {
@@ -51,6 +76,12 @@ impl Follower {
     }
 
     /// Returns the revision of the held view, or `None` if none is held. Allocates nothing.
+    ///
+    /// ```
+    /// let mut follower = Follower::new();
+    /// follower.hear(alloc, r#"{"kind":"snapshot","rev":1,"view":[[[]]]}"#).ok()?;
+    /// assert!(rt; follower.rev() == Some(1));
+    /// ```
     pub fn rev(&self) -> Option<u64>
         ensures { result ≡ option_map (λ held. held.0) self.now }
     {

@@ -3,6 +3,11 @@ use std::alloc::AllocError;
 use thiserror::Error;
 
 /// The reason why [`History::new`](crate::History::new) fails, in the order of the checks.
+///
+/// ```
+/// assert!(rt; matches!(History::new(alloc, 0, 0), Err(HistoryFault::BadLimit)));
+/// assert!(rt; matches!(History::new(alloc, 64, LAST_REVISION + 1), Err(HistoryFault::BadLimit)));
+/// ```
 #[derive(Clone, Copy, Debug, PartialEq, Eq, Error)]
 pub enum HistoryFault {
     /// The limit is not 1 to 1,024, or the revision to start from is above `2^53 - 1`.

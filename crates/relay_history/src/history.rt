@@ -17,6 +17,15 @@ pub const LAST_REVISION: u64 = MAX_COUNT;
 
 /// The changes of a document's last revisions. Contracts see it as a `Past`: the newest revision,
 /// the most revisions that are held, and the changes of each held one.
+///
+/// ```
+/// let mut history = History::new(alloc, 2, 5).ok()?;
+/// for _ in 0..3 {
+///     history.push(ReservedRevision::new(alloc).ok()?, Vec::new(alloc));
+/// }
+/// // Of the revisions 6, 7 and 8 the last two are held.
+/// assert!(rt; history.newest() == 8 && history.oldest() == 6);
+/// ```
 #[derive(Drop)]
 pub struct History {
     newest: u64,
@@ -52,6 +61,11 @@ impl History {
     /// hold at most `limit`. Allocates all the memory that its ring of revisions needs. Returns
     /// `BadLimit` if `limit` is not 1 to [`MAX_REVISIONS`] or `start` is above [`LAST_REVISION`],
     /// and `NoMemory` if memory runs out.
+    ///
+    /// ```
+    /// let history = History::new(alloc, 64, 5).ok()?;
+    /// assert!(rt; history.newest() == 5 && history.oldest() == 5 && history.weight() == 0);
+    /// ```
     pub fn new(alloc: Global, limit: u64, start: u64) -> Result<History, HistoryFault>
         ensures ok { IfOk result (λ history. history ≡ begun limit start) }
         ensures bad_limit { IsErrOf result HistoryFault.BadLimit ↔
@@ -70,6 +84,14 @@ impl History {
 
     /// Adds the changes of the next revision, which are walked once, in memory that was reserved.
     /// If the limit of revisions is reached, the oldest is forgotten. Allocates nothing.
+    ///
+    /// ```
+    /// let mut history = History::new(alloc, 64, 0).ok()?;
+    /// let mut changes = Vec::new(alloc);
+    /// changes.push(Change::DropItem { path: Pointer::read(alloc, "/0", 64).ok()? }).ok()?;
+    /// history.push(ReservedRevision::new(alloc).ok()?, changes);
+    /// assert!(rt; history.newest() == 1);
+    /// ```
     #[tactic(auto, using(crate::proofs::Weights::one_more_fits, crate::proofs::Weights::one_within_more, crate::proofs::Weights::kept_with_revision))]
     pub fn push(&mut self, reserved: ReservedRevision, changes: Vec<Change>)
         requires { self.old.newest < LAST_REVISION }
@@ -85,6 +107,16 @@ impl History {
     /// Forgets the oldest revisions until the rest together weigh no more than the budget; none if
     /// the budget is [`Budget::Unbounded`]. Walks no change, so the cost is that of dropping what
     /// is forgotten. Allocates nothing.
+    ///
+    /// ```
+    /// let mut history = History::new(alloc, 64, 0).ok()?;
+    /// let mut changes = Vec::new(alloc);
+    /// changes.push(Change::DropItem { path: Pointer::read(alloc, "/0", 64).ok()? }).ok()?;
+    /// history.push(ReservedRevision::new(alloc).ok()?, changes);
+    /// history.trim(Budget::Left(CHANGE_WEIGHT));
+    /// // The change weighs more, for its path.
+    /// assert!(rt; history.since(0).is_none() && history.weight() == 0);
+    /// ```
     #[tactic(auto, using(crate::proofs::Trims::trimmed_all, crate::proofs::Trims::trimmed_without_oldest))]
     pub fn trim(&mut self, budget: Budget)
         ensures { self.new ≡ trimmed budget self.old }
@@ -95,6 +127,14 @@ impl History {
     }
 
     /// Returns what the held revisions weigh together. Allocates nothing.
+    ///
+    /// ```
+    /// let mut history = History::new(alloc, 64, 0).ok()?;
+    /// let mut changes = Vec::new(alloc);
+    /// changes.push(Change::DropItem { path: Pointer::read(alloc, "/0", 64).ok()? }).ok()?;
+    /// history.push(ReservedRevision::new(alloc).ok()?, changes);
+    /// assert!(rt; history.weight() == CHANGE_WEIGHT + 8 + 1);
+    /// ```
     pub fn weight(&self) -> u64
         ensures { result ≡ history_weight self.now }
     {
@@ -118,6 +158,12 @@ impl History {
     }
 
     /// Returns the newest revision. Allocates nothing.
+    ///
+    /// ```
+    /// let mut history = History::new(alloc, 64, 5).ok()?;
+    /// history.push(ReservedRevision::new(alloc).ok()?, Vec::new(alloc));
+    /// assert!(rt; history.newest() == 6);
+    /// ```
     pub fn newest(&self) -> u64
         ensures kept { IsHistory self.now }
         ensures newest { result ≡ self.now.newest }
@@ -127,6 +173,14 @@ impl History {
 
     /// Returns the oldest revision after which all changes are held, the least for which
     /// [`History::since`] returns `Some`. Allocates nothing.
+    ///
+    /// ```
+    /// let mut history = History::new(alloc, 1, 5).ok()?;
+    /// history.push(ReservedRevision::new(alloc).ok()?, Vec::new(alloc));
+    /// assert!(rt; history.oldest() == 5);
+    /// history.push(ReservedRevision::new(alloc).ok()?, Vec::new(alloc));
+    /// assert!(rt; history.oldest() == 6);
+    /// ```
     pub fn oldest(&self) -> u64
         ensures kept { IsHistory self.now }
         ensures oldest { result ≡ oldest self.now }

@@ -16,6 +16,14 @@ pub const CHANGE_WEIGHT: u64 = 64;
 
 /// The memory for a revision. It is allocated before a patch is applied, so that keeping its
 /// changes needs none.
+///
+/// ```
+/// let mut history = History::new(alloc, 64, 0).ok()?;
+/// let reserved = ReservedRevision::new(alloc).ok()?;
+/// // From here on nothing can fail.
+/// history.push(reserved, Vec::new(alloc));
+/// assert!(rt; history.newest() == 1);
+/// ```
 #[derive(Drop)]
 pub struct ReservedRevision {
     weighed: Box<Weighed>,

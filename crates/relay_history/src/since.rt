@@ -7,6 +7,15 @@ use std::marker::Model;
 /// An iterator over the changes after a revision, in the order in which they were made. Contracts
 /// see it as the list of the changes not returned yet. `since.collect(alloc)?` returns them all at
 /// once, as a `Vec<&Change>`.
+///
+/// ```
+/// let mut history = History::new(alloc, 64, 0).ok()?;
+/// let mut changes = Vec::new(alloc);
+/// changes.push(Change::DropItem { path: Pointer::read(alloc, "/3", 64).ok()? }).ok()?;
+/// history.push(ReservedRevision::new(alloc).ok()?, changes);
+/// let mut since = history.since(0)?;
+/// assert!(rt; matches!(since.next(), Some(Change::DropItem { .. })) && since.next().is_none());
+/// ```
 #[derive(Drop)]
 pub struct Since<'a> {
     /// The changes of the current revision that were not returned yet.

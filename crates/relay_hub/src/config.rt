@@ -14,6 +14,13 @@ use relay_limits::{
 use relay_tree::Budget;
 
 /// The configuration of a hub, which never changes.
+///
+/// ```
+/// let config = HubConfig { sessions: 1, ..HubConfig::new(1, 1, 64, 32) };
+/// let mut hub = Hub::with_config(alloc, config).ok()?;
+/// assert!(rt; hub.open(alloc, "board", Access::ReadWrite).is_ok());
+/// assert!(rt; hub.open(alloc, "board", Access::ReadWrite) == Err(OpenFault::SessionsFull));
+/// ```
 #[derive(Clone, Copy, Debug, PartialEq, Eq)]
 pub struct HubConfig {
     /// The number of this run of the relay. A client of another epoch starts over.
@@ -41,6 +48,12 @@ pub struct HubConfig {
 
 impl HubConfig {
     /// A configuration with these numbers, 64 rooms, 256 sessions, and no bound on weight.
+    ///
+    /// ```
+    /// let config = HubConfig::new(1, 1, 64, 32);
+    /// assert!(rt; config.rooms == DEFAULT_ROOMS && config.sessions == DEFAULT_SESSIONS);
+    /// assert!(rt; config.view_weight == Budget::Unbounded);
+    /// ```
     pub fn new(epoch: u64, first: u64, history: u64, max_waiting_patches: u64) -> HubConfig
         ensures { result ≡ config epoch first history max_waiting_patches }
     {

@@ -4,6 +4,16 @@ use crate::text::Text;
 use relay_access::Access;
 
 /// One event: one call of the hub.
+///
+/// ```
+/// let mut hub = Hub::new(alloc, 1, 1, 64, 32).ok()?;
+/// let room = Text::of(String::from_str(alloc, "board").ok()?);
+/// let text = Text::of(String::from_str(alloc, r#"{"do": "unwatch", "id": 1}"#).ok()?);
+/// let access = Access::ReadOnly;
+/// let events = [Event::Open { room, access }, Event::Receive { session: 1, text }];
+/// let answers = hub.run(alloc, events.as_slice()).ok()?;
+/// assert!(rt; matches!(&answers[1], Answer::Heard(Heard::Answered { short: 0 })));
+/// ```
 #[derive(Drop)]
 pub enum Event {
     Open { room: Text, access: Access },
@@ -17,6 +27,14 @@ pub enum Event {
 }
 
 /// A session that was opened.
+///
+/// ```
+/// let mut hub = Hub::new(alloc, 1, 7, 64, 32).ok()?;
+/// let first = hub.open(alloc, "board", Access::ReadWrite).ok()?;
+/// hub.close(first.session).ok()?;
+/// let second = hub.open(alloc, "board", Access::ReadWrite).ok()?;
+/// assert!(rt; first.session == 7 && second == Opening { session: 8, rev: 0 });
+/// ```
 #[derive(Clone, Copy, Debug, PartialEq, Eq)]
 pub struct Opening {
     /// The number of the session, which is never used again.
@@ -26,6 +44,16 @@ pub struct Opening {
 }
 
 /// The outcome of a received text.
+///
+/// ```
+/// let mut hub = Hub::new(alloc, 1, 1, 64, 32).ok()?;
+/// let session = hub.open(alloc, "board", Access::ReadWrite).ok()?.session;
+/// // The welcome waits, and then 31 replies.
+/// for _ in 0..31 {
+///     hub.receive(alloc, session, r#"{"do": "unwatch", "id": 1}"#).ok()?;
+/// }
+/// assert!(rt; hub.receive(alloc, session, "anything") == Ok(Heard::Busy));
+/// ```
 #[derive(Clone, Copy, Debug, PartialEq, Eq)]
 pub enum Heard {
     /// One reply was added to the outbox. `short` is the number of watchers whose outboxes folded
@@ -36,6 +64,16 @@ pub enum Heard {
 }
 
 /// The answer to an event.
+///
+/// ```
+/// let mut hub = Hub::new(alloc, 1, 1, 64, 32).ok()?;
+/// let room = Text::of(String::from_str(alloc, "two words").ok()?);
+/// let events = [Event::Open { room, access: Access::ReadWrite }, Event::Draw { session: 1 }];
+/// let answers = hub.run(alloc, events.as_slice()).ok()?;
+/// // No room may have that name, so no session was opened.
+/// assert!(rt; matches!(&answers[0], Answer::NotOpened(OpenFault::RoomName)));
+/// assert!(rt; matches!(&answers[1], Answer::NoSession));
+/// ```
 #[derive(Debug, Drop)]
 pub enum Answer {
     Opened(Opening),

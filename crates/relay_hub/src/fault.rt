@@ -3,6 +3,13 @@ use crate::event::Answer;
 use thiserror::Error;
 
 /// Why a hub cannot be made.
+///
+/// ```
+/// // Rooms keep the changes of at most 1,024 revisions.
+/// assert!(rt; matches!(Hub::new(alloc, 1, 1, 1_025, 32), Err(HubNewFault::BadLimit)));
+/// // 2^53 is no count, and so no epoch.
+/// assert!(rt; matches!(Hub::new(alloc, 1 << 53, 1, 64, 32), Err(HubNewFault::BadLimit)));
+/// ```
 #[derive(Clone, Copy, Debug, PartialEq, Eq, Error)]
 pub enum HubNewFault {
     /// `epoch` or `first` is not a count, or `rooms`, `sessions`, `history` or
@@ -14,6 +21,15 @@ pub enum HubNewFault {
 }
 
 /// Why a session cannot be opened, in the order of the checks. The hub is unchanged.
+///
+/// ```
+/// let config = HubConfig { rooms: 1, sessions: 1, ..HubConfig::new(1, 1, 64, 32) };
+/// let mut hub = Hub::with_config(alloc, config).ok()?;
+/// hub.open(alloc, "board", Access::ReadWrite).ok()?;
+/// assert!(rt; hub.open(alloc, "a/b", Access::ReadWrite) == Err(OpenFault::RoomName));
+/// assert!(rt; hub.open(alloc, "another", Access::ReadWrite) == Err(OpenFault::RoomsFull));
+/// assert!(rt; hub.open(alloc, "board", Access::ReadWrite) == Err(OpenFault::SessionsFull));
+/// ```
 #[derive(Clone, Copy, Debug, PartialEq, Eq, Error)]
 pub enum OpenFault {
     /// The name is not 1 to 64 ASCII letters, digits, `-` and `_`.
@@ -35,6 +51,13 @@ pub enum OpenFault {
 }
 
 /// Why a room cannot be forgotten, in the order of the checks. The hub is unchanged.
+///
+/// ```
+/// let mut hub = Hub::new(alloc, 1, 1, 64, 32).ok()?;
+/// hub.open(alloc, "board", Access::ReadOnly).ok()?;
+/// assert!(rt; hub.forget(alloc, "another") == Err(ForgetFault::NoRoom));
+/// assert!(rt; hub.forget(alloc, "board") == Err(ForgetFault::Occupied));
+/// ```
 #[derive(Clone, Copy, Debug, PartialEq, Eq, Error)]
 pub enum ForgetFault {
     /// No room has that name.
@@ -51,6 +74,14 @@ pub enum ForgetFault {
 }
 
 /// Why a session cannot be served. The hub is unchanged.
+///
+/// ```
+/// let mut hub = Hub::new(alloc, 1, 1, 64, 32).ok()?;
+/// let session = hub.open(alloc, "board", Access::ReadWrite).ok()?.session;
+/// hub.close(session).ok()?;
+/// assert!(rt; hub.draw(alloc, session) == Err(HubFault::NoSession));
+/// assert!(rt; hub.receive(alloc, session, "{}") == Err(HubFault::NoSession));
+/// ```
 #[derive(Clone, Copy, Debug, PartialEq, Eq, Error)]
 pub enum HubFault {
     /// No open session has that number.
@@ -61,6 +92,11 @@ pub enum HubFault {
 }
 
 /// No open session has that number. The hub is unchanged.
+///
+/// ```
+/// let mut hub = Hub::new(alloc, 1, 1, 64, 32).ok()?;
+/// assert!(rt; hub.close(1) == Err(NoSession));
+/// ```
 #[derive(Clone, Copy, Debug, PartialEq, Eq, Error)]
 #[error("no such session")]
 pub struct NoSession;

@@ -350,6 +350,16 @@ impl Hub {
     }
 
     /// Whether a will is left to be done. Allocates nothing.
+    ///
+    /// ```
+    /// let mut hub = Hub::new(alloc, 1, 1, 64, 32).ok()?;
+    /// let session = hub.open(alloc, "board", Access::ReadWrite).ok()?.session;
+    /// let will = r#"{"do": "will", "id": 1, "patch": [{"op": "add", "path": "", "value": 7}]}"#;
+    /// hub.receive(alloc, session, will).ok()?;
+    /// assert!(rt; !hub.has_wills());
+    /// hub.close(session).ok()?;
+    /// assert!(rt; hub.has_wills());
+    /// ```
     pub fn has_wills(&self) -> bool
         ensures { result ≡ not (length self.now.wills == 0) }
     {
@@ -419,6 +429,18 @@ impl Hub {
     /// weight bounds that, so that a resume from before its last change is answered by a snapshot;
     /// and the patches that wait for a session fold into one snapshot that is due. Documents,
     /// sessions and replies stay. Allocates nothing.
+    ///
+    /// ```
+    /// let mut hub = Hub::new(alloc, 1, 1, 64, 32).ok()?;
+    /// let client = hub.open(alloc, "board", Access::ReadWrite).ok()?.session;
+    /// hub.receive(alloc, client, r#"{"do":"resume","id":1,"epoch":1,"rev":0,"view":[""]}"#).ok()?;
+    /// let edit = r#"{"do": "edit", "id": 2, "patch": [{"op": "add", "path": "", "value": 7}]}"#;
+    /// hub.receive(alloc, client, edit).ok()?;
+    /// hub.shed();
+    /// while hub.waiting(client) != Some(1) { hub.draw(alloc, client).ok()??; }
+    /// let shown = hub.draw(alloc, client).ok()??;
+    /// assert!(rt; shown.as_str() == r#"{"kind":"snapshot","rev":1,"view":[[7]]}"#);
+    /// ```
     pub fn shed(&mut self)
         ensures shed { self.new ≡ shed self.old }
         ensures stands { (b : HubConfig) (E : Log) → StandsFor b E self.old

@@ -23,6 +23,15 @@ pub enum SnapshotCause {
 }
 
 /// How many messages the sessions of a hub drew since it was made, by kind.
+///
+/// ```
+/// let mut hub = Hub::new(alloc, 1, 1, 64, 32).ok()?;
+/// let session = hub.open(alloc, "board", Access::ReadWrite).ok()?.session;
+/// hub.receive(alloc, session, "[1,]").ok()?;
+/// while hub.draw(alloc, session).ok()?.is_some() {}
+/// // The welcome, and a refusal.
+/// assert!(rt; hub.message_counts().replies == 2);
+/// ```
 #[derive(Clone, Copy)]
 pub struct MessageCounts {
     /// Replies, refusals among them.
@@ -36,6 +45,15 @@ pub struct MessageCounts {
 }
 
 /// How many refusals name a fault.
+///
+/// ```
+/// let mut hub = Hub::new(alloc, 1, 1, 64, 32).ok()?;
+/// let session = hub.open(alloc, "board", Access::ReadWrite).ok()?.session;
+/// hub.receive(alloc, session, "[1,]").ok()?;
+/// while hub.draw(alloc, session).ok()?.is_some() {}
+/// let refused = hub.message_counts().refusals.iter().find(|refusals| refusals.count > 0)?;
+/// assert!(rt; refused.word() == "not-json" && refused.count == 1);
+/// ```
 #[derive(Clone, Copy)]
 pub struct FaultCount {
     pub fault: Word,
@@ -43,6 +61,15 @@ pub struct FaultCount {
 }
 
 /// How many snapshots were drawn, by what made them due.
+///
+/// ```
+/// let mut hub = Hub::new(alloc, 1, 1, 64, 32).ok()?;
+/// let session = hub.open(alloc, "board", Access::ReadOnly).ok()?.session;
+/// hub.receive(alloc, session, r#"{"do": "watch", "id": 1, "view": [""]}"#).ok()?;
+/// while hub.draw(alloc, session).ok()?.is_some() {}
+/// let snapshots = &hub.message_counts().snapshots;
+/// assert!(rt; snapshots.watch == 1 && snapshots.resume == 0);
+/// ```
 #[derive(Clone, Copy)]
 pub struct SnapshotCounts {
     pub watch: u64,

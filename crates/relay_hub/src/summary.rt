@@ -5,6 +5,15 @@ ghost use Rattle.relay_hub.specs.Summary.{shown_by, summary_of};
 use crate::room_sessions::RoomSessions;
 
 /// A room's name and size.
+///
+/// ```
+/// let mut hub = Hub::new(alloc, 1, 1, 64, 32).ok()?;
+/// hub.open(alloc, "board", Access::ReadWrite).ok()?;
+/// let board = hub.room_named("board")?;
+/// assert!(rt; board.name == "board" && board.sessions == 1 && board.revision == 0);
+/// // The document is null, and each value weighs 8.
+/// assert!(rt; board.weight == 8);
+/// ```
 #[derive(Clone, Copy, Debug)]
 pub struct RoomSummary<'h> {
     pub name: &'h str,

@@ -10,6 +10,11 @@ enum Held {
 }
 
 /// An owned text. Contracts see only its bytes.
+///
+/// ```
+/// let text = Text::of(String::from_str(alloc, "board").ok()?);
+/// assert!(rt; text.as_str() == "board");
+/// ```
 #[derive(Debug, Drop)]
 pub struct Text {
     held: Held,

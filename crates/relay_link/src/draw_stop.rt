@@ -1,6 +1,17 @@
 //! Why a turn draws no more.
 
 /// Why a turn of an open link drew no more messages.
+///
+/// ```
+/// let wire = Wire::new(alloc);
+/// let mut hub = Hub::new(alloc, 1, 1, 64, 32).ok()?;
+/// let mut link = Link::new(alloc, End { wire: &wire }).ok()?;
+/// wire.try_borrow_mut().ok()?.perform(alloc, "asks 13 /rooms/a").ok()?;
+/// link.turn(alloc, &mut hub, MAX_DRAWS).ok()?;
+/// // One message waits, the welcome.
+/// assert!(rt; link.turn(alloc, &mut hub, 1).ok()?.stop == Some(DrawStop::Limit));
+/// assert!(rt; link.turn(alloc, &mut hub, 1).ok()?.stop == Some(DrawStop::Empty));
+/// ```
 #[derive(Clone, Copy, Debug, PartialEq, Eq)]
 pub enum DrawStop {
     /// Nothing waits for the session any more.

@@ -3,6 +3,17 @@ use tungstenite::Error;
 use websocket::error::ProtocolError;
 
 /// Why a link failed to open, is no longer open, or is gone.
+///
+/// ```
+/// let wire = Wire::new(alloc);
+/// let mut hub = Hub::new(alloc, 1, 1, 64, 32).ok()?;
+/// let mut link = Link::new(alloc, End { wire: &wire }).ok()?;
+/// wire.try_borrow_mut().ok()?.perform(alloc, "asks 13 /rooms/a").ok()?;
+/// link.turn(alloc, &mut hub, MAX_DRAWS).ok()?;
+/// // A binary message, masked and empty.
+/// wire.try_borrow_mut().ok()?.perform(alloc, "hex 82 80 00 00 00 00").ok()?;
+/// assert!(rt; link.turn(alloc, &mut hub, MAX_DRAWS).ok()?.cause == Some(EndCause::Binary));
+/// ```
 #[derive(Clone, Copy, Debug, PartialEq, Eq)]
 pub enum EndCause {
     /// The other side closed the connection, or its bytes ended.

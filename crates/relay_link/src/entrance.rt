@@ -7,6 +7,12 @@ use indexmap::IndexSet;
 use std::alloc::Global;
 
 /// In which rooms a good handshake opens a session.
+///
+/// ```
+/// let mut entrance = Entrance::closed(alloc);
+/// entrance.admit(alloc, "board", 64).ok()?;
+/// assert!(rt; entrance.lets_in("board") && !entrance.lets_in("lobby"));
+/// ```
 #[derive(Drop)]
 pub enum Entrance {
     /// Clients may enter every room.
@@ -18,6 +24,10 @@ pub enum Entrance {
 
 impl Entrance {
     /// An entrance that lets clients into no room. Allocates nothing.
+    ///
+    /// ```
+    /// assert!(rt; !Entrance::closed(alloc).lets_in("board"));
+    /// ```
     pub fn closed(alloc: Global) -> Entrance
         ensures { (room : List ℕ) → lets_in result room ≡ false }
     {
@@ -25,11 +35,22 @@ impl Entrance {
     }
 
     /// Whether clients may enter no room. Allocates nothing.
+    ///
+    /// ```
+    /// let mut entrance = Entrance::closed(alloc);
+    /// assert!(rt; entrance.is_closed());
+    /// entrance.admit(alloc, "board", 64).ok()?;
+    /// assert!(rt; !entrance.is_closed());
+    /// ```
     pub fn is_closed(&self) -> bool {
         matches!(self, Entrance::Only(names) if names.is_empty())
     }
 
     /// Whether clients may enter the room of a name. Allocates nothing.
+    ///
+    /// ```
+    /// assert!(rt; Entrance::Open.lets_in("board") && !Entrance::closed(alloc).lets_in("board"));
+    /// ```
     pub fn lets_in(&self, room: &str) -> bool
         ensures { result ≡ lets_in self.now room.now }
     {
@@ -41,6 +62,13 @@ impl Entrance {
 
     /// Lets clients into the room of a name too. `Full`: as many names are there as given, and this
     /// one is not among them. An error leaves it as it was. No other room is let in or kept out.
+    ///
+    /// ```
+    /// let mut entrance = Entrance::closed(alloc);
+    /// entrance.admit(alloc, "board", 1).ok()?;
+    /// assert!(rt; entrance.lets_in("board") && entrance.admit(alloc, "board", 1).is_ok());
+    /// assert!(rt; entrance.admit(alloc, "lobby", 1) == Err(EntranceFault::Full));
+    /// ```
     pub fn admit(&mut self, alloc: Global, room: &str, most: u64) -> Result<(), EntranceFault>
         ensures admitted { OnOk result (lets_in self.new room.now ≡ true) }
         ensures unchanged { OnErr result
@@ -66,6 +94,13 @@ impl Entrance {
 
     /// Keeps clients out of the room of a name, and lets them into the others as before. `AllOpen`:
     /// they may enter every room, and nothing is changed. Allocates nothing.
+    ///
+    /// ```
+    /// let mut entrance = Entrance::closed(alloc);
+    /// entrance.admit(alloc, "board", 64).ok()?;
+    /// entrance.exclude("board").ok()?;
+    /// assert!(rt; !entrance.lets_in("board"));
+    /// ```
     pub fn exclude(&mut self, room: &str) -> Result<(), EntranceFault>
         ensures excluded { OnOk result (lets_in self.new room.now ≡ false) }
         ensures unchanged { OnErr result (self.new ≡ self.old) }

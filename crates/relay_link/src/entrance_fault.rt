@@ -2,6 +2,12 @@
 use std::alloc::AllocError;
 
 /// Why a room is not opened to clients, or not closed.
+///
+/// ```
+/// let mut entrance = Entrance::Open;
+/// assert!(rt; entrance.exclude("board") == Err(EntranceFault::AllOpen));
+/// assert!(rt; entrance.lets_in("board"));
+/// ```
 #[derive(Clone, Copy, Debug, PartialEq, Eq)]
 pub enum EntranceFault {
     /// Clients may enter every room, so that none can be closed.

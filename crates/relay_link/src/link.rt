@@ -43,6 +43,17 @@ const HEAD_CAPACITY: usize = 512;
 
 /// A stream and its session in the hub. Contracts see its state: its stage, its session, and
 /// whether it is idle or corked.
+///
+/// ```
+/// let wire = Wire::new(alloc);
+/// let mut hub = Hub::new(alloc, 1, 1, 64, 32).ok()?;
+/// let mut link = Link::new(alloc, End { wire: &wire }).ok()?;
+/// // This request asks for no room.
+/// wire.try_borrow_mut().ok()?.perform(alloc, "asks 13 /other").ok()?;
+/// let turn = link.turn(alloc, &mut hub, MAX_DRAWS).ok()?;
+/// assert!(rt; turn.stage == Stage::Gone && turn.cause == Some(EndCause::Refused(404)));
+/// assert!(rt; wire.try_borrow_mut().ok()?.output.as_slice().starts_with(b"HTTP/1.1 404 "));
+/// ```
 #[derive(Drop)]
 pub struct Link<S: Write + Drop> {
     state: State<S>,
@@ -83,6 +94,17 @@ impl<S: Read + Write + Drop> Link<S> {
     }
 
     /// The session that the link has in the hub, if any. Allocates nothing.
+    ///
+    /// ```
+    /// let wire = Wire::new(alloc);
+    /// let mut hub = Hub::new(alloc, 1, 7, 64, 32).ok()?;
+    /// let mut link = Link::new(alloc, End { wire: &wire }).ok()?;
+    /// wire.try_borrow_mut().ok()?.perform(alloc, "asks 13 /rooms/a").ok()?;
+    /// link.turn(alloc, &mut hub, MAX_DRAWS).ok()?;
+    /// assert!(rt; link.session() == Some(7));
+    /// link.end(alloc, &mut hub).ok()?;
+    /// assert!(rt; link.session() == None);
+    /// ```
     pub fn session(&self) -> Option<u64>
         ensures { result ≡ session_of self.now }
     {
@@ -90,6 +112,16 @@ impl<S: Read + Write + Drop> Link<S> {
     }
 
     /// The stage of the link. Allocates nothing.
+    ///
+    /// ```
+    /// let wire = Wire::new(alloc);
+    /// let mut hub = Hub::new(alloc, 1, 1, 64, 32).ok()?;
+    /// let mut link = Link::new(alloc, End { wire: &wire }).ok()?;
+    /// // Half a head is no handshake yet.
+    /// wire.try_borrow_mut().ok()?.perform(alloc, "line GET /rooms/a HTTP/1.1").ok()?;
+    /// link.turn(alloc, &mut hub, MAX_DRAWS).ok()?;
+    /// assert!(rt; link.stage() == Stage::Head);
+    /// ```
     pub fn stage(&self) -> Stage
         ensures { result ≡ stage_of self.now }
     {
@@ -99,6 +131,17 @@ impl<S: Read + Write + Drop> Link<S> {
     /// Whether a turn has no work until the stream is ready, or a message waits for the session.
     /// `false` in three cases: the last read turn found a close; it found a message, and more bytes
     /// were read or may be in the stream; a turn since then was interrupted or out of memory.
+    ///
+    /// ```
+    /// let wire = Wire::new(alloc);
+    /// let mut hub = Hub::new(alloc, 1, 1, 64, 32).ok()?;
+    /// let mut link = Link::new(alloc, End { wire: &wire }).ok()?;
+    /// wire.try_borrow_mut().ok()?.perform(alloc, "asks 13 /rooms/a").ok()?;
+    /// link.turn(alloc, &mut hub, MAX_DRAWS).ok()?;
+    /// link.turn(alloc, &mut hub, MAX_DRAWS).ok()?;
+    /// // The welcome is sent, and the client says nothing.
+    /// assert!(rt; link.is_idle());
+    /// ```
     pub fn is_idle(&self) -> bool
         ensures { result ≡ is_idle self.now }
     {
@@ -106,6 +149,17 @@ impl<S: Read + Write + Drop> Link<S> {
     }
 
     /// Whether output of [`Link::read_turn`] is corked. Allocates nothing.
+    ///
+    /// ```
+    /// let wire = Wire::new(alloc);
+    /// let mut hub = Hub::new(alloc, 1, 1, 64, 32).ok()?;
+    /// let mut link = Link::new(alloc, End { wire: &wire }).ok()?;
+    /// wire.try_borrow_mut().ok()?.perform(alloc, "asks 13 /rooms/a").ok()?;
+    /// link.turn(alloc, &mut hub, MAX_DRAWS).ok()?;
+    /// // The turn draws the welcome.
+    /// link.read_turn(alloc, &Entrance::Open, &mut hub, MAX_DRAWS).ok()?;
+    /// assert!(rt; link.has_corked_output());
+    /// ```
     pub fn has_corked_output(&self) -> bool
         ensures { result ≡ has_corked_output self.now }
     {
@@ -175,6 +229,17 @@ impl<S: Read + Write + Drop> Link<S> {
     /// [`Link::write_turn`]. A link that ends sends its output first. A valid handshake for a room
     /// that `entrance` does not let clients into opens no session: the reply is 503, with
     /// `Retry-After: 1`. A link that has a session is heard as ever.
+    ///
+    /// ```
+    /// let wire = Wire::new(alloc);
+    /// let mut hub = Hub::new(alloc, 1, 1, 64, 32).ok()?;
+    /// let mut link = Link::new(alloc, End { wire: &wire }).ok()?;
+    /// wire.try_borrow_mut().ok()?.perform(alloc, "asks 13 /rooms/a").ok()?;
+    /// let entrance = Entrance::closed(alloc);
+    /// let turn = link.read_turn(alloc, &entrance, &mut hub, MAX_DRAWS).ok()?;
+    /// assert!(rt; turn.cause == Some(EndCause::Refused(503)) && link.session() == None);
+    /// assert!(rt; turn.turned_away?.as_str() == "a");
+    /// ```
     #[tactic(auto, using(crate::proofs::Telling::answers_if))]
     pub fn read_turn(
         &mut self,
@@ -206,6 +271,17 @@ impl<S: Read + Write + Drop> Link<S> {
     /// [`Link::turn`]. A link in any other state is unchanged. `AllocError` comes before anything
     /// is written or changed. A link that stays open has framed the drawn texts, in order, and
     /// nothing else.
+    ///
+    /// ```
+    /// let wire = Wire::new(alloc);
+    /// let mut hub = Hub::new(alloc, 1, 1, 64, 32).ok()?;
+    /// let mut link = Link::new(alloc, End { wire: &wire }).ok()?;
+    /// wire.try_borrow_mut().ok()?.perform(alloc, "asks 13 /rooms/a").ok()?;
+    /// link.read_turn(alloc, &Entrance::Open, &mut hub, MAX_DRAWS).ok()?;
+    /// let turn = link.write_turn(alloc, &mut hub, MAX_DRAWS).ok()?;
+    /// // The welcome.
+    /// assert!(rt; turn.has_drawn() && !turn.has_received() && hub.waiting(1) == Some(0));
+    /// ```
     pub fn write_turn(
         &mut self,
         alloc: Global,

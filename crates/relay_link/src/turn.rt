@@ -9,6 +9,17 @@ use crate::stage::Stage;
 use relay_hub::{Event, OpenFault};
 
 /// What a turn did, and the stage that it left the link in.
+///
+/// ```
+/// let wire = Wire::new(alloc);
+/// let config = HubConfig { rooms: 1, ..HubConfig::new(1, 1, 64, 32) };
+/// let mut hub = Hub::with_config(alloc, config).ok()?;
+/// hub.open(alloc, "only", Access::ReadWrite).ok()?;
+/// let mut link = Link::new(alloc, End { wire: &wire }).ok()?;
+/// wire.try_borrow_mut().ok()?.perform(alloc, "asks 13 /rooms/a").ok()?;
+/// let turn = link.turn(alloc, &mut hub, MAX_DRAWS).ok()?;
+/// assert!(rt; turn.fault == Some(OpenFault::RoomsFull) && turn.stage == Stage::Gone);
+/// ```
 #[derive(Drop)]
 pub struct Turn {
     /// The hub events that the turn made, in order: at most 34.
@@ -33,6 +44,17 @@ pub struct Turn {
 
 impl Turn {
     /// Whether the turn passed a text to the hub. Allocates nothing.
+    ///
+    /// ```
+    /// let wire = Wire::new(alloc);
+    /// let mut hub = Hub::new(alloc, 1, 1, 64, 32).ok()?;
+    /// let mut link = Link::new(alloc, End { wire: &wire }).ok()?;
+    /// wire.try_borrow_mut().ok()?.perform(alloc, "asks 13 /rooms/a").ok()?;
+    /// link.turn(alloc, &mut hub, MAX_DRAWS).ok()?;
+    /// wire.try_borrow_mut().ok()?.perform(alloc, r#"says {"id":7}"#).ok()?;
+    /// let turn = link.turn(alloc, &mut hub, MAX_DRAWS).ok()?;
+    /// assert!(rt; turn.has_received());
+    /// ```
     pub fn has_received(&self) -> bool
         ensures { result ≡ list_any is_receive self.now.events.items }
     {
@@ -42,6 +64,17 @@ impl Turn {
     }
 
     /// How many bytes the texts have that the turn passed to the hub. Allocates nothing.
+    ///
+    /// ```
+    /// let wire = Wire::new(alloc);
+    /// let mut hub = Hub::new(alloc, 1, 1, 64, 32).ok()?;
+    /// let mut link = Link::new(alloc, End { wire: &wire }).ok()?;
+    /// wire.try_borrow_mut().ok()?.perform(alloc, "asks 13 /rooms/a").ok()?;
+    /// link.turn(alloc, &mut hub, MAX_DRAWS).ok()?;
+    /// wire.try_borrow_mut().ok()?.perform(alloc, r#"says {"id":7}"#).ok()?;
+    /// let turn = link.turn(alloc, &mut hub, MAX_DRAWS).ok()?;
+    /// assert!(rt; turn.received() == r#"{"id":7}"#.len() as u64);
+    /// ```
     pub fn received(&self) -> u64 {
         let mut bytes = 0u64;
         for event in self.events.iter() {
@@ -53,6 +86,16 @@ impl Turn {
     }
 
     /// Whether the turn made a draw, with or without a text. Allocates nothing.
+    ///
+    /// ```
+    /// let wire = Wire::new(alloc);
+    /// let mut hub = Hub::new(alloc, 1, 1, 64, 32).ok()?;
+    /// let mut link = Link::new(alloc, End { wire: &wire }).ok()?;
+    /// wire.try_borrow_mut().ok()?.perform(alloc, "asks 13 /rooms/a").ok()?;
+    /// let handshake = link.turn(alloc, &mut hub, MAX_DRAWS).ok()?;
+    /// let welcome = link.turn(alloc, &mut hub, MAX_DRAWS).ok()?;
+    /// assert!(rt; !handshake.has_drawn() && welcome.has_drawn());
+    /// ```
     pub fn has_drawn(&self) -> bool
         ensures { result ≡ list_any is_draw self.now.events.items }
     {

@@ -22,6 +22,16 @@ use std::alloc::{AllocError, Global};
 const MAX_TEXTS: usize = 3;
 
 /// What a visit did, and how it went.
+///
+/// ```
+/// let mut hub = Hub::new(alloc, 1, 1, 64, 32).ok()?;
+/// let room = String::from_str(alloc, "board").ok()?;
+/// let watch = r#"{"do": "watch", "id": 1, "view": [""]}"#;
+/// let text = Text::of(String::from_str(alloc, watch).ok()?);
+/// let visit = Visit::make(alloc, &mut hub, room, Access::ReadOnly, text).ok()?;
+/// // The welcome, the reply, and the snapshot.
+/// assert!(rt; visit.texts[2].as_str() == r#"{"kind":"snapshot","rev":0,"view":[[null]]}"#);
+/// ```
 #[derive(Drop)]
 pub struct Visit {
     /// The hub events that the visit made, in order: at most 6.

@@ -6,6 +6,14 @@ use relay_hub::{OpenFault, Opening};
 
 /// How a visit went: whether a session was opened, its text passed to the hub, and what waited for
 /// it drawn.
+///
+/// ```
+/// let mut hub = Hub::new(alloc, 1, 1, 64, 32).ok()?;
+/// let room = String::from_str(alloc, "two words").ok()?;
+/// let text = Text::of(String::from_str(alloc, "{}").ok()?);
+/// let visit = Visit::make(alloc, &mut hub, room, Access::ReadWrite, text).ok()?;
+/// assert!(rt; visit.outcome == VisitOutcome::Refused(OpenFault::RoomName));
+/// ```
 #[derive(Clone, Copy, Debug, PartialEq, Eq)]
 pub enum VisitOutcome {
     /// The hub opened no session. After [`OpenFault::NoMemory`] nothing has happened.
@@ -20,6 +28,12 @@ pub enum VisitOutcome {
 
 impl VisitOutcome {
     /// Whether the hub heard the text.
+    ///
+    /// ```
+    /// let opening = Opening { session: 1, rev: 0 };
+    /// assert!(rt; VisitOutcome::Answered(opening).is_heard());
+    /// assert!(rt; !VisitOutcome::Unheard(opening).is_heard());
+    /// ```
     pub fn is_heard(self) -> bool
         ensures { (text : List ℕ) → heard_in self text ≡ cond result (text ∷ []) [] }
     {
@@ -30,6 +44,11 @@ impl VisitOutcome {
     }
 
     /// Whether memory was refused.
+    ///
+    /// ```
+    /// assert!(rt; VisitOutcome::Refused(OpenFault::NoMemory).lacked_memory());
+    /// assert!(rt; !VisitOutcome::Refused(OpenFault::RoomsFull).lacked_memory());
+    /// ```
     pub fn lacked_memory(self) -> bool {
         match self {
             VisitOutcome::Refused(fault) => fault == OpenFault::NoMemory,

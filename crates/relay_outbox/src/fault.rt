@@ -3,6 +3,11 @@ use std::alloc::AllocError;
 use thiserror::Error;
 
 /// The reason why [`Outbox::new`](crate::Outbox::new) fails, in the order of the checks.
+///
+/// ```
+/// let none: Result<Outbox<u64, u64>, OutboxFault> = Outbox::new(alloc, 0);
+/// assert!(rt; matches!(none, Err(OutboxFault::BadLimit)));
+/// ```
 #[derive(Clone, Copy, Debug, PartialEq, Eq, Error)]
 pub enum OutboxFault {
     /// The limit of waiting patches is not 1 to 256.

@@ -15,6 +15,16 @@ pub const MAX_REPLIES: u64 = 32;
 /// The messages that wait for one session: replies `R` and patches `P`, in the form in which the
 /// hub stores patches. Contracts see it as `Contents`: its replies, its patches, whether a snapshot
 /// is due, and the most patches that may wait.
+///
+/// ```
+/// let mut outbox: Outbox<&str, u64> = Outbox::new(alloc, 32).ok()?;
+/// outbox.patch(1);
+/// outbox.reply("done").ok()?;
+/// // Replies come first.
+/// assert!(rt; matches!(outbox.front(), Front::Reply(_)));
+/// outbox.drop_front();
+/// assert!(rt; matches!(outbox.front(), Front::Patch(1)));
+/// ```
 #[derive(Drop)]
 pub struct Outbox<R, P> {
     replies: HeapCircularBuffer<R>,
@@ -46,6 +56,11 @@ impl<R: Drop, P: Drop> Outbox<R, P> {
     /// Creates an empty outbox in which at most `max_waiting_patches` patches may wait. Allocates
     /// all the memory that its rings need. Returns `BadLimit` if `max_waiting_patches` is not 1 to
     /// [`MAX_WAITING_PATCHES`], and `NoMemory` if memory runs out.
+    ///
+    /// ```
+    /// let outbox: Outbox<&str, u64> = Outbox::new(alloc, 32).ok()?;
+    /// assert!(rt; outbox.replies() == 0 && outbox.patches() == 0 && !outbox.is_due());
+    /// ```
     pub fn new(alloc: Global, max_waiting_patches: u64) -> Result<Outbox<R, P>, OutboxFault>
         ensures ok { IfOk result (λ outbox. outbox ≡ empty max_waiting_patches) }
         ensures bad_limit { IsErrOf result OutboxFault.BadLimit ↔
@@ -65,6 +80,13 @@ impl<R: Drop, P: Drop> Outbox<R, P> {
 
     /// Adds a reply after the others. Returns `Busy` with the reply if [`MAX_REPLIES`] wait
     /// already; nothing changes then. Allocates nothing.
+    ///
+    /// ```
+    /// let mut outbox: Outbox<&str, u64> = Outbox::new(alloc, 32).ok()?;
+    /// outbox.reply("watching").ok()?;
+    /// outbox.reply("done").ok()?;
+    /// assert!(rt; matches!(outbox.front(), Front::Reply(reply) if *reply == "watching"));
+    /// ```
     pub fn reply(&mut self, reply: R) -> Result<(), Busy<R>>
         ensures ok { OnOk result (self.new ≡ with_reply reply self.old) }
         ensures busy { IsErr result ↔ (length self.old.replies ≡ MAX_REPLIES) }
@@ -98,6 +120,14 @@ impl<R: Drop, P: Drop> Outbox<R, P> {
 
     /// Drops the patches and makes a snapshot due in their place. The replies stay. Allocates
     /// nothing.
+    ///
+    /// ```
+    /// let mut outbox: Outbox<&str, u64> = Outbox::new(alloc, 32).ok()?;
+    /// outbox.patch(1);
+    /// outbox.reply("done").ok()?;
+    /// outbox.fold();
+    /// assert!(rt; outbox.patches() == 0 && outbox.is_due() && outbox.replies() == 1);
+    /// ```
     pub fn fold(&mut self)
         ensures { self.new ≡ folded self.old }
     {
@@ -106,6 +136,14 @@ impl<R: Drop, P: Drop> Outbox<R, P> {
     }
 
     /// Drops the patches and the due snapshot. The replies stay. Allocates nothing.
+    ///
+    /// ```
+    /// let mut outbox: Outbox<&str, u64> = Outbox::new(alloc, 32).ok()?;
+    /// outbox.patch(1);
+    /// outbox.reply("unwatched").ok()?;
+    /// outbox.clear();
+    /// assert!(rt; outbox.patches() == 0 && !outbox.is_due() && outbox.replies() == 1);
+    /// ```
     pub fn clear(&mut self)
         ensures { self.new ≡ cleared self.old }
     {
@@ -115,6 +153,14 @@ impl<R: Drop, P: Drop> Outbox<R, P> {
 
     /// Returns the next message: the first reply, else the first patch, else the due snapshot.
     /// Allocates nothing.
+    ///
+    /// ```
+    /// let mut outbox: Outbox<&str, u64> = Outbox::new(alloc, 32).ok()?;
+    /// outbox.patch(1);
+    /// outbox.patch(2);
+    /// assert!(rt; matches!(outbox.front(), Front::Patch(1)));
+    /// assert!(rt; matches!(outbox.front(), Front::Patch(1)));
+    /// ```
     pub fn front(&self) -> Front<'_, R, P>
         ensures { shown result ≡ front_of self.now }
     {
@@ -133,6 +179,14 @@ impl<R: Drop, P: Drop> Outbox<R, P> {
 
     /// Removes the message that [`Outbox::front`] returns; changes nothing if nothing waits.
     /// Allocates nothing.
+    ///
+    /// ```
+    /// let mut outbox: Outbox<&str, u64> = Outbox::new(alloc, 32).ok()?;
+    /// outbox.patch(1);
+    /// outbox.patch(2);
+    /// outbox.drop_front();
+    /// assert!(rt; matches!(outbox.front(), Front::Patch(2)));
+    /// ```
     pub fn drop_front(&mut self)
         ensures { self.new ≡ without_front self.old }
     {
@@ -142,6 +196,14 @@ impl<R: Drop, P: Drop> Outbox<R, P> {
     }
 
     /// Returns whether a snapshot is due. If it is, no patch waits. Allocates nothing.
+    ///
+    /// ```
+    /// let mut outbox: Outbox<&str, u64> = Outbox::new(alloc, 32).ok()?;
+    /// outbox.fold();
+    /// outbox.patch(1);
+    /// // The snapshot shows what the patch would tell.
+    /// assert!(rt; outbox.is_due() && outbox.patches() == 0);
+    /// ```
     pub fn is_due(&self) -> bool
         ensures kept { IsOutbox self.now }
         ensures due { result ≡ self.now.due }
@@ -150,6 +212,12 @@ impl<R: Drop, P: Drop> Outbox<R, P> {
     }
 
     /// Returns the number of waiting replies. Allocates nothing.
+    ///
+    /// ```
+    /// let mut outbox: Outbox<&str, u64> = Outbox::new(alloc, 32).ok()?;
+    /// outbox.reply("watching").ok()?;
+    /// assert!(rt; outbox.replies() == 1);
+    /// ```
     pub fn replies(&self) -> u64
         ensures kept { IsOutbox self.now }
         ensures count { result ≡ length self.now.replies }
@@ -158,6 +226,13 @@ impl<R: Drop, P: Drop> Outbox<R, P> {
     }
 
     /// Returns the number of waiting patches. Allocates nothing.
+    ///
+    /// ```
+    /// let mut outbox: Outbox<&str, u64> = Outbox::new(alloc, 32).ok()?;
+    /// outbox.patch(1);
+    /// outbox.patch(2);
+    /// assert!(rt; outbox.patches() == 2);
+    /// ```
     pub fn patches(&self) -> u64
         ensures kept { IsOutbox self.now }
         ensures count { result ≡ length self.now.patches }

@@ -12,6 +12,16 @@ pub const MAX_WEIGHT: u64 = 262_144;
 pub const MAX_CHANGES_WEIGHT: u64 = 4 * MAX_WEIGHT;
 
 /// The bounds on an application of a patch.
+///
+/// ```
+/// let mut cards = read(alloc, "[1]").ok()?;
+/// let ops = read(alloc, r#"[{"op": "add", "path": "/-", "value": 2}]"#).ok()?;
+/// let patch = Patch::from_owned(alloc, ops, PatchLimits::REQUEST).ok()?;
+/// // A list of two numbers weighs 24.
+/// let narrow = Bounds { weight: 23, ..Bounds::FREE };
+/// let refused = apply(alloc, &mut cards, &patch, narrow).err()?;
+/// assert!(rt; refused == ApplyFault { at: 0, cause: Cause::TooHeavy });
+/// ```
 #[derive(Clone, Copy, Debug, PartialEq, Eq)]
 pub struct Bounds {
     /// The most levels of the document after each operation. `u64::MAX` means no bound.

@@ -4,6 +4,17 @@ use relay_tree::Tree;
 
 /// Where a value is removed or inserted. The path is canonical: `-` is replaced by the index that
 /// it names.
+///
+/// ```
+/// let mut cards = read(alloc, r#"["a", "b"]"#).ok()?;
+/// let ops = read(alloc, r#"[{"op": "move", "from": "/0", "path": "/-"}]"#).ok()?;
+/// let patch = Patch::from_owned(alloc, ops, PatchLimits::REQUEST).ok()?;
+/// let changes = apply(alloc, &mut cards, &patch, Bounds::DOCUMENT).ok()?;
+/// let Change::Move { to, .. } = &changes[0] else {
+///     return None;
+/// };
+/// assert!(rt; to.item && to.path.text(alloc).ok()?.as_str() == "/1");
+/// ```
 #[derive(Drop)]
 pub struct Place {
     pub path: Pointer,
@@ -13,6 +24,16 @@ pub struct Place {
 
 /// What an accepted operation changed. A `test` changes nothing, and neither does a `move` to its
 /// own place.
+///
+/// ```
+/// let mut board = read(alloc, r#"{"a": 1}"#).ok()?;
+/// let ops = r#"[{"op":"add","path":"/a","value":2},{"op":"add","path":"/b","value":3}]"#;
+/// let ops = read(alloc, ops).ok()?;
+/// let patch = Patch::from_owned(alloc, ops, PatchLimits::REQUEST).ok()?;
+/// let changes = apply(alloc, &mut board, &patch, Bounds::DOCUMENT).ok()?;
+/// assert!(rt; matches!(&changes[0], Change::Set { .. }));
+/// assert!(rt; matches!(&changes[1], Change::AddMember { .. }));
+/// ```
 #[derive(Drop)]
 pub enum Change {
     /// The root, or an existing member or element, was set to the value.

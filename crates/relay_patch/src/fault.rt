@@ -5,6 +5,14 @@ use thiserror::Error;
 /// Why an operation is refused. An operation's own checks come first, in the order of RFC 6902,
 /// then the weight of the changes so far, and then the depth and the weight of the document that it
 /// made. Memory is allocated only after an operation's own checks have passed.
+///
+/// ```
+/// let mut board = read(alloc, r#"{"a": 1}"#).ok()?;
+/// let ops = read(alloc, r#"[{"op": "remove", "path": ""}]"#).ok()?;
+/// let patch = Patch::from_owned(alloc, ops, PatchLimits::REQUEST).ok()?;
+/// let refused = apply(alloc, &mut board, &patch, Bounds::DOCUMENT).err()?;
+/// assert!(rt; refused.cause == Cause::Root);
+/// ```
 #[derive(Clone, Copy, Debug, PartialEq, Eq, Error)]
 pub enum Cause {
     /// A path names a part that is not there.
@@ -50,6 +58,15 @@ impl From<AllocError> for Cause {
 }
 
 /// The first operation that is refused, counted from 0, and why.
+///
+/// ```
+/// let mut board = read(alloc, r#"{"a": 1}"#).ok()?;
+/// let ops = r#"[{"op": "test", "path": "/a", "value": 1}, {"op": "remove", "path": "/b"}]"#;
+/// let ops = read(alloc, ops).ok()?;
+/// let patch = Patch::from_owned(alloc, ops, PatchLimits::REQUEST).ok()?;
+/// let refused = apply(alloc, &mut board, &patch, Bounds::DOCUMENT).err()?;
+/// assert!(rt; refused == ApplyFault { at: 1, cause: Cause::Missing });
+/// ```
 #[derive(Clone, Copy, Debug, PartialEq, Eq, Error)]
 #[error("operation {at}: {cause}")]
 pub struct ApplyFault {

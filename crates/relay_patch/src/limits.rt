@@ -10,6 +10,13 @@ pub const MAX_OPS: u64 = 64;
 pub const MAX_RELAYED_TOKENS: u64 = MAX_TOKENS + 2;
 
 /// The most operations of a patch, and the most tokens of each of its paths.
+///
+/// ```
+/// let ops = read(alloc, r#"[{"op": "remove", "path": "/a/b"}]"#).ok()?;
+/// let short = PatchLimits { tokens: 1, ..PatchLimits::REQUEST };
+/// let patch = Patch::from_tree(alloc, &ops, short);
+/// assert!(rt; matches!(patch, Err(PatchFault::Pointer { at: 0 })));
+/// ```
 #[derive(Clone, Copy, Debug, PartialEq, Eq)]
 pub struct PatchLimits {
     pub ops: u64,
@@ -33,6 +40,12 @@ impl PatchLimits {
 /// Why a tree does not read as a patch. A list that is too long is refused before its elements are
 /// checked. Otherwise the fault is that of the first element that is refused, and `at` is its
 /// place, counted from 0.
+///
+/// ```
+/// let ops = read(alloc, r#"[{"op": "remove", "path": "/a"}, {"op": "swap"}]"#).ok()?;
+/// let patch = Patch::from_tree(alloc, &ops, PatchLimits::REQUEST);
+/// assert!(rt; matches!(patch, Err(PatchFault::UnknownOp { at: 1 })));
+/// ```
 #[derive(Clone, Copy, Debug, PartialEq, Eq, Error)]
 pub enum PatchFault {
     #[error("too many operations")]

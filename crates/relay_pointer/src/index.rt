@@ -6,6 +6,11 @@ ghost use Rattle.relay_pointer.specs.Index.{is_digit, is_index, number_of, numbe
 /// Returns the number of a token that is an index: `0`, or digits of which the first is not `0`.
 /// Any other token has none. A number above `u64::MAX`, which no list reaches, is returned as
 /// `u64::MAX`. Allocates nothing.
+///
+/// ```
+/// assert!(rt; index_of("0") == Some(0) && index_of("17") == Some(17));
+/// assert!(rt; index_of("01") == None && index_of("-") == None && index_of("") == None);
+/// ```
 #[tactic(auto, unfolding(crate::specs::Index::index_of))]
 pub fn index_of(token: &str) -> Option<u64>
     ensures { result ≡ number_of token.now }

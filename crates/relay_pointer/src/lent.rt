@@ -15,6 +15,12 @@ use relay_tree::{Node, Tree};
 /// Borrows the value to which the pointer leads, as a node for writing. Afterwards the whole is the
 /// old one with what was written put at the path. Returns `None`, with the whole unchanged, if the
 /// pointer leads to nothing. Allocates nothing.
+///
+/// ```
+/// let mut board = read(alloc, r#"{"cards": [1, 2]}"#).ok()?;
+/// *resolve_mut(&mut board, &Pointer::read(alloc, "/cards/1", 64).ok()?)? = Node::Whole(3);
+/// assert!(rt; board.text(alloc).ok()?.as_str() == r#"{"cards":[1,3]}"#);
+/// ```
 pub fn resolve_mut<'t>(whole: &'t mut Tree, pointer: &Pointer) -> Option<&'t mut Node>
     ensures* writes_back { sem 𝓛 (LendsIf tree.the_row node.the_row whole.entry result
         (λ n. put whole.old pointer.now (document_of n)) whole.old) }

@@ -11,6 +11,13 @@ use std::mem;
 
 /// Replaces the value at the pointer and returns the old one. Returns `None`, with nothing changed
 /// and the new value dropped, if the pointer leads to nothing. Allocates nothing.
+///
+/// ```
+/// let mut board = read(alloc, "[1, 2]").ok()?;
+/// let first = Pointer::read(alloc, "/0", 64).ok()?;
+/// let old = exchange(&mut board, &first, Tree::of_count(3))?;
+/// assert!(rt; old.count() == Some(1) && board.text(alloc).ok()?.as_str() == "[3,2]");
+/// ```
 pub fn exchange(whole: &mut Tree, pointer: &Pointer, value: Tree) -> Option<Tree>
     ensures old { result ≡ at whole.old pointer.now }
     ensures found { IfSome result (λ _. whole.new ≡ put whole.old pointer.now value) }
@@ -25,6 +32,12 @@ pub fn exchange(whole: &mut Tree, pointer: &Pointer, value: Tree) -> Option<Tree
 
 /// Takes the value at the pointer out and leaves null there. Returns `None`, with nothing changed,
 /// if the pointer leads to nothing. Allocates nothing.
+///
+/// ```
+/// let mut board = read(alloc, "[1, 2]").ok()?;
+/// let first = take(&mut board, &Pointer::read(alloc, "/0", 64).ok()?)?;
+/// assert!(rt; first.count() == Some(1) && board.text(alloc).ok()?.as_str() == "[null,2]");
+/// ```
 pub fn take(whole: &mut Tree, pointer: &Pointer) -> Option<Tree>
     ensures old { result ≡ at whole.old pointer.now }
     ensures found { IfSome result (λ _. whole.new ≡ put whole.old pointer.now null) }
@@ -35,6 +48,13 @@ pub fn take(whole: &mut Tree, pointer: &Pointer) -> Option<Tree>
 
 /// Replaces the value at the pointer. Returns `false`, with nothing changed and the new value
 /// dropped, if the pointer leads to nothing. Allocates nothing.
+///
+/// ```
+/// let mut board = read(alloc, "[1, 2]").ok()?;
+/// assert!(rt; set(&mut board, &Pointer::read(alloc, "/0", 64).ok()?, Tree::of_count(3)));
+/// assert!(rt; !set(&mut board, &Pointer::read(alloc, "/2", 64).ok()?, Tree::of_count(4)));
+/// assert!(rt; board.text(alloc).ok()?.as_str() == "[3,2]");
+/// ```
 pub fn set(whole: &mut Tree, pointer: &Pointer, value: Tree) -> bool
     ensures found { result ≡ is_some (at whole.old pointer.now) }
     ensures set { IsTrue result → whole.new ≡ put whole.old pointer.now value }

@@ -16,6 +16,12 @@ use thiserror::Error;
 pub const MAX_TOKENS: u64 = 64;
 
 /// Why a text does not read as a pointer, in the order of the checks.
+///
+/// ```
+/// // Behind `~` there has to be a 0 or a 1.
+/// assert!(rt; matches!(Pointer::read(alloc, "/a~2", 64), Err(PointerFault::BadPointer)));
+/// assert!(rt; matches!(Pointer::read(alloc, "/a/b", 1), Err(PointerFault::TooManyTokens)));
+/// ```
 #[derive(Clone, Copy, Debug, PartialEq, Eq, Error)]
 pub enum PointerFault {
     /// The text is not empty and does not begin with `/`, or a `~` in it is not followed by `0` or

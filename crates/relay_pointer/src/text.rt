@@ -9,6 +9,12 @@ use std::alloc::{AllocError, Global};
 impl Pointer {
     /// Returns the text that spells this pointer. Costs the text's length in time and memory. If
     /// memory runs out, nothing stays allocated.
+    ///
+    /// ```
+    /// let pointer = Pointer::read(alloc, "/m~0n/a~1b", 64).ok()?;
+    /// assert!(rt; pointer.tokens()[0].as_str() == "m~n");
+    /// assert!(rt; pointer.text(alloc).ok()?.as_str() == "/m~0n/a~1b");
+    /// ```
     pub fn text(&self, alloc: Global) -> Result<String, AllocError>
         ensures { IfOk result (λ text. string_bytes text ≡ spelling self.now) }
     {

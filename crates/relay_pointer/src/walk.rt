@@ -32,6 +32,12 @@ pub fn resolve<'t>(tree: &'t Tree, pointer: &Pointer) -> Option<&'t Tree>
 
 /// Returns the part that one token names: the member of an object, or the element of a list if the
 /// token is its index.
+///
+/// ```
+/// let board = read(alloc, r#"{"a/b": 7}"#).ok()?;
+/// // A token is not escaped.
+/// assert!(rt; child(&board, "a/b")?.count() == Some(7) && child(&board, "a~1b").is_none());
+/// ```
 pub fn child<'t>(tree: &'t Tree, token: &str) -> Option<&'t Tree>
     ensures { option_copied result ≡ child tree.now token.now }
 {
@@ -44,6 +50,12 @@ pub fn child<'t>(tree: &'t Tree, token: &str) -> Option<&'t Tree>
 
 /// Borrows the part that one token names for writing, or returns `None` if it names none. Only what
 /// is written there changes. Allocates nothing.
+///
+/// ```
+/// let mut cards = read(alloc, "[1, 2]").ok()?;
+/// child_mut(&mut cards.node, "1")?.node = Node::Null;
+/// assert!(rt; cards.text(alloc).ok()?.as_str() == "[1,null]");
+/// ```
 pub fn child_mut<'t>(node: &'t mut Node, token: &str) -> Option<&'t mut Tree>
     ensures* writes_back { sem 𝓛 (LendsChild node.entry token.now result) }
     ensures value { option_copied_mut result ≡ child (document_of node.old) token.now }

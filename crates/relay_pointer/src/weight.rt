@@ -13,6 +13,13 @@ const TOKEN_WEIGHT: u64 = 8;
 impl Pointer {
     /// Returns what is left of a budget after the path's weight is paid: 8 for each token, plus its
     /// bytes. Returns `None` if the path weighs more. Allocates nothing.
+    ///
+    /// ```
+    /// let pointer = Pointer::read(alloc, "/cards/0", 64).ok()?;
+    /// // Two tokens, and their bytes.
+    /// assert!(rt; pointer.pay(Budget::Left(30)) == Some(Budget::Left(30 - (2 * 8 + 5 + 1))));
+    /// assert!(rt; pointer.pay(Budget::Left(21)) == None);
+    /// ```
     pub fn pay(&self, budget: Budget) -> Option<Budget>
         ensures { result ≡ paid (path_weight self.now) budget }
     {

@@ -4,6 +4,14 @@ use relay_patch::Patch;
 use relay_tree::Tree;
 
 /// A message: a reply, or an update that brings a watcher's view to the revision `rev`.
+///
+/// ```
+/// let text = r#"{"kind":"snapshot","rev":1,"view":[[[]]]}"#;
+/// let Message::Snapshot { rev, view } = Message::read(alloc, text).ok()? else {
+///     return None;
+/// };
+/// assert!(rt; rev == 1 && view.text(alloc).ok()?.as_str() == "[[[]]]");
+/// ```
 #[derive(Drop)]
 pub enum Message {
     Reply(Reply),

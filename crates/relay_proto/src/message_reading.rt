@@ -15,6 +15,11 @@ use std::alloc::Global;
 use thiserror::Error;
 
 /// The reason why no message was read.
+///
+/// ```
+/// let text = r#"{"id":1,"kind":"done"}"#;
+/// assert!(rt; matches!(Message::read(alloc, text), Err(MessageFault::NotMessage)));
+/// ```
 #[derive(Clone, Copy, Debug, PartialEq, Eq, Error)]
 pub enum MessageFault {
     /// [`relay_tree::read`] reads no tree from the text, or its members do not have the forms of a
@@ -28,6 +33,11 @@ pub enum MessageFault {
 impl Message {
     /// Reads a message from its text. A patch may have any number of operations, with paths of at
     /// most 66 tokens. See `docs/PROTOCOL.md`, "Messages".
+    ///
+    /// ```
+    /// let message = Message::read(alloc, r#"{"id":2,"kind":"watching"}"#);
+    /// assert!(rt; matches!(message, Ok(Message::Reply(Reply::Watching { id: 2 }))));
+    /// ```
     pub fn read(alloc: Global, text: &str) -> Result<Message, MessageFault>
         ensures ok { IfOk result (λ message. message_of_text text.now ≡ Some message) }
         ensures not_message { IfErr result

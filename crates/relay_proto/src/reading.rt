@@ -45,6 +45,12 @@ impl Request {
 
     /// Reads a request as [`Request::read`] does, in memory that is kept from text to text
     /// ([`relay_tree::read_with`]).
+    ///
+    /// ```
+    /// let mut scratch = Scratch::new(alloc);
+    /// let request = Request::read_with(alloc, r#"{"do": "unwatch", "id": 1}"#, &mut scratch);
+    /// assert!(rt; matches!(request, Ok(Request::Unwatch { id: 1 })));
+    /// ```
     pub fn read_with(
         alloc: Global,
         text: &str,

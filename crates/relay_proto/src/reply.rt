@@ -2,6 +2,11 @@
 use crate::word::Word;
 
 /// What follows the reply to a resume.
+///
+/// ```
+/// let text = Reply::Resumed { id: 3, how: ResumeOutcome::Nothing }.text(alloc).ok()?;
+/// assert!(rt; text.as_str() == r#"{"how":"nothing","id":3,"kind":"resumed"}"#);
+/// ```
 #[derive(Clone, Copy, Debug, PartialEq, Eq)]
 pub enum ResumeOutcome {
     /// Nothing: the client's view is up to date.
@@ -17,6 +22,11 @@ impl ResumeOutcome {
     ghost use Rattle.relay_proto.specs.Words.{how_text, how_of_text};
 
     /// Returns the outcome whose word is `text`, or `None` if there is none.
+    ///
+    /// ```
+    /// assert!(rt; ResumeOutcome::read("snapshot") == Some(ResumeOutcome::Snapshot));
+    /// assert!(rt; ResumeOutcome::read("all") == None);
+    /// ```
     pub fn read(text: &str) -> Option<ResumeOutcome>
         ensures { result ≡ how_of_text text.now }
     {
@@ -29,6 +39,10 @@ impl ResumeOutcome {
     }
 
     /// Returns the word that messages use for this outcome.
+    ///
+    /// ```
+    /// assert!(rt; ResumeOutcome::Patch.text() == "patch");
+    /// ```
     pub fn text(self) -> &'static str
         ensures { result.now ≡ how_text self }
     {
@@ -41,6 +55,12 @@ impl ResumeOutcome {
 }
 
 /// A reply. Epochs, revisions, session numbers and ids are counts, from 0 to `2^53 - 1`.
+///
+/// ```
+/// let reply = Reply::Welcome { epoch: 1_700_000_000, rev: 0, session: 1 };
+/// let wanted = r#"{"epoch":1700000000,"kind":"welcome","rev":0,"session":1}"#;
+/// assert!(rt; reply.text(alloc).ok()?.as_str() == wanted);
+/// ```
 #[derive(Clone, Copy, Debug, PartialEq, Eq)]
 pub enum Reply {
     /// A session was opened in a room that is at revision `rev`.

@@ -3,6 +3,14 @@ use relay_patch::Patch;
 use relay_view::View;
 
 /// One request. Ids, epochs and revisions are counts, from 0 to `2^53 - 1`.
+///
+/// ```
+/// let text = r#"{"base":4,"do":"edit","id":9,"patch":[{"op":"remove","path":"/cards/0"}]}"#;
+/// let Request::Edit { id, base, patch } = Request::read(alloc, text).ok()? else {
+///     return None;
+/// };
+/// assert!(rt; id == 9 && base == Some(4) && patch.ops().len() == 1);
+/// ```
 #[derive(Drop)]
 pub enum Request {
     /// Apply the patch to the room's document; if `base` is given, only at that revision.

@@ -88,6 +88,12 @@ fn count_text(alloc: Global, count: Option<u64>) -> Result<String, AllocError>
 impl Message {
     /// Returns the text of the message. It reads back as the message if its members have the forms
     /// that [`Message::read`] accepts and it nests at most 127 containers.
+    ///
+    /// ```
+    /// let message = Message::Snapshot { rev: 1, view: read(alloc, "[[[]]]").ok()? };
+    /// let wanted = r#"{"kind":"snapshot","rev":1,"view":[[[]]]}"#;
+    /// assert!(rt; message.text(alloc).ok()?.as_str() == wanted);
+    /// ```
     pub fn text(&self, alloc: Global) -> Result<String, AllocError>
         ensures text { IfOk result
             (λ text. string_bytes text ≡ text_of (message_document self.now)) }

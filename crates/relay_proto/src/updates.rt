@@ -32,6 +32,14 @@ const LIKELY_BYTES: u64 = 65_536;
 /// Returns the text of a patch message: the operations that bring a view to the revision `rev`.
 /// Copies no value; the text of each pointer is allocated briefly. It reads back as the message if
 /// the revision is a count, paths have at most 66 tokens and the text nests at most 127 containers.
+///
+/// ```
+/// let ops = read(alloc, r#"[{"op": "replace", "path": "/0", "value": [1]}]"#).ok()?;
+/// let patch = Patch::from_owned(alloc, ops, PatchLimits::RELAYED).ok()?;
+/// let text = patch_text(alloc, 2, &patch).ok()?;
+/// let wanted = r#"{"kind":"patch","patch":[{"op":"replace","path":"/0","value":[1]}],"rev":2}"#;
+/// assert!(rt; text.as_str() == wanted);
+/// ```
 pub fn patch_text(alloc: Global, rev: u64, patch: &Patch) -> Result<String, AllocError>
     ensures text { IfOk result (λ text. string_bytes text ≡ text_of (patch_message rev patch.now)) }
     ensures reads_back { IfOk result
@@ -49,6 +57,11 @@ pub fn patch_text(alloc: Global, rev: u64, patch: &Patch) -> Result<String, Allo
 /// Returns the text of a snapshot: the whole view of the revision `rev`. Allocates only that text
 /// and copies no value. It reads back as the message if the revision is a count, the view is a list
 /// of slots and the text nests at most 127 containers.
+///
+/// ```
+/// let text = snapshot_text(alloc, 1, &read(alloc, "[[[]]]").ok()?).ok()?;
+/// assert!(rt; text.as_str() == r#"{"kind":"snapshot","rev":1,"view":[[[]]]}"#);
+/// ```
 pub fn snapshot_text(alloc: Global, rev: u64, view: &Tree) -> Result<String, AllocError>
     ensures text { IfOk result
         (λ text. string_bytes text ≡ text_of (snapshot_message rev view.now)) }
@@ -63,6 +76,13 @@ pub fn snapshot_text(alloc: Global, rev: u64, view: &Tree) -> Result<String, All
 
 /// Returns the same text as [`snapshot_text`] for what a view shows of the document of the revision
 /// `rev`. Allocates only that text: each part is written straight from the document.
+///
+/// ```
+/// let view = View::read(alloc, &read(alloc, r#"["/cards"]"#).ok()?).ok()?;
+/// let board = read(alloc, r#"{"cards": []}"#).ok()?;
+/// let text = shown_text(alloc, 1, &view, &board).ok()?;
+/// assert!(rt; text.as_str() == r#"{"kind":"snapshot","rev":1,"view":[[[]]]}"#);
+/// ```
 pub fn shown_text(
     alloc: Global,
     rev: u64,

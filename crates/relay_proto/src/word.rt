@@ -5,6 +5,14 @@ ghost use Rattle.relay_proto.specs.Words.{word_text, word_of_text};
 /// The reason why a request is refused, in the order of the list in `docs/PROTOCOL.md`, "Messages".
 /// That is not the order of the checks: an edit is checked for `Exhausted` and `Stale` before its
 /// patch.
+///
+/// ```
+/// let text = r#"{"at":0,"fault":"test-failed","id":1,"kind":"refused"}"#;
+/// let Message::Reply(Reply::Refused { fault, at, .. }) = Message::read(alloc, text).ok()? else {
+///     return None;
+/// };
+/// assert!(rt; fault == Word::TestFailed && at == Some(0));
+/// ```
 #[derive(Clone, Copy, Debug, PartialEq, Eq)]
 pub enum Word {
     TooLong,
@@ -31,6 +39,11 @@ pub enum Word {
 
 impl Word {
     /// Returns the word with this text, or `None` if there is none.
+    ///
+    /// ```
+    /// assert!(rt; Word::read("too-heavy") == Some(Word::TooHeavy));
+    /// assert!(rt; Word::read("too-light") == None);
+    /// ```
     pub fn read(text: &str) -> Option<Word>
         ensures { result ≡ word_of_text text.now }
     {
@@ -60,6 +73,10 @@ impl Word {
     }
 
     /// Returns the text that messages use for this word.
+    ///
+    /// ```
+    /// assert!(rt; Word::NoContainer.text() == "no-container");
+    /// ```
     pub fn text(self) -> &'static str
         ensures { result.now ≡ word_text self }
     {

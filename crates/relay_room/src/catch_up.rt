@@ -16,6 +16,16 @@ use relay_view::View;
 use std::alloc::{AllocError, Global};
 
 /// What a client that holds the view of an earlier revision has missed.
+///
+/// ```
+/// let mut room = Room::starting_at(alloc, read(alloc, "[1]").ok()?, 7, 64).ok()?;
+/// let ops = read(alloc, r#"[{"op": "add", "path": "/-", "value": 2}]"#).ok()?;
+/// let patch = Patch::from_owned(alloc, ops, PatchLimits::REQUEST).ok()?;
+/// room.edit(alloc, ReservedRevision::new(alloc).ok()?, None, &patch).ok()?;
+/// let view = View::read(alloc, &read(alloc, r#"["/0"]"#).ok()?).ok()?;
+/// // What comes behind the first element does not touch a view of it.
+/// assert!(rt; matches!(room.catch_up(alloc, 7, &view), Ok(CatchUp::Nothing)));
+/// ```
 #[derive(Drop)]
 pub enum CatchUp {
     /// Nothing: the view is up to date.
@@ -61,6 +71,16 @@ impl Room {
 
     /// Like [`Room::catch_up`], but returns `Snapshot` in place of a patch that weighs more than
     /// the budget. No such patch is built.
+    ///
+    /// ```
+    /// let mut room = Room::starting_at(alloc, read(alloc, "[1]").ok()?, 7, 64).ok()?;
+    /// let ops = read(alloc, r#"[{"op": "add", "path": "/-", "value": 2}]"#).ok()?;
+    /// let patch = Patch::from_owned(alloc, ops, PatchLimits::REQUEST).ok()?;
+    /// room.edit(alloc, ReservedRevision::new(alloc).ok()?, None, &patch).ok()?;
+    /// let view = View::read(alloc, &read(alloc, r#"[""]"#).ok()?).ok()?;
+    /// let missed = room.catch_up_within(alloc, 7, &view, Budget::Left(8));
+    /// assert!(rt; matches!(missed, Ok(CatchUp::Snapshot)));
+    /// ```
     pub fn catch_up_within(
         &self,
         alloc: Global,

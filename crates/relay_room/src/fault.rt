@@ -11,6 +11,12 @@ use std::alloc::AllocError;
 use thiserror::Error;
 
 /// The reason why no room is created, in the order of the checks.
+///
+/// ```
+/// assert!(rt; matches!(Room::new(alloc, 0), Err(RoomFault::BadLimit)));
+/// let late = Room::starting_at(alloc, read(alloc, "[1]").ok()?, 1 << 53, 64);
+/// assert!(rt; matches!(late, Err(RoomFault::BadRevision)));
+/// ```
 #[derive(Clone, Copy, Debug, PartialEq, Eq, Error)]
 pub enum RoomFault {
     /// The document is deeper than `Bounds::DOCUMENT` allows.
@@ -43,6 +49,16 @@ impl From<HistoryFault> for RoomFault {
 }
 
 /// The reason why an edit makes no revision, in the order of the checks. The room is unchanged.
+///
+/// ```
+/// let mut room = Room::starting_at(alloc, read(alloc, "[1]").ok()?, 7, 64).ok()?;
+/// let ops = read(alloc, r#"[{"op": "remove", "path": "/5"}]"#).ok()?;
+/// let patch = Patch::from_owned(alloc, ops, PatchLimits::REQUEST).ok()?;
+/// let stale = room.edit(alloc, ReservedRevision::new(alloc).ok()?, Some(6), &patch);
+/// assert!(rt; stale == Err(EditFault::Stale { present: 7 }));
+/// let refused = room.edit(alloc, ReservedRevision::new(alloc).ok()?, Some(7), &patch);
+/// assert!(rt; refused == Err(EditFault::Apply(ApplyFault { at: 0, cause: Cause::Missing })));
+/// ```
 #[derive(Clone, Copy, Debug, PartialEq, Eq, Error)]
 pub enum EditFault {
     /// The present revision is `2^53 - 1`, the last possible one.
@@ -65,6 +81,12 @@ impl From<ApplyFault> for EditFault {
 }
 
 /// The reason why a client cannot catch up, in the order of the checks.
+///
+/// ```
+/// let room = Room::starting_at(alloc, read(alloc, "[1]").ok()?, 7, 64).ok()?;
+/// let view = View::read(alloc, &read(alloc, r#"["/0"]"#).ok()?).ok()?;
+/// assert!(rt; matches!(room.catch_up(alloc, 8, &view), Err(CatchFault::Future)));
+/// ```
 #[derive(Clone, Copy, Debug, PartialEq, Eq, Error)]
 pub enum CatchFault {
     /// The revision is above the present one.

@@ -9,6 +9,14 @@ use std::marker::Model;
 
 /// A shared document and the changes of its last revisions. Contracts see it as a `State`: the
 /// document, and the `Past` of a history.
+///
+/// ```
+/// let mut room = Room::new(alloc, 64).ok()?;
+/// let ops = read(alloc, r#"[{"op": "add", "path": "", "value": {"n": 1}}]"#).ok()?;
+/// let patch = Patch::from_owned(alloc, ops, PatchLimits::REQUEST).ok()?;
+/// let rev = room.edit(alloc, ReservedRevision::new(alloc).ok()?, None, &patch).ok()?;
+/// assert!(rt; rev == 1 && room.document().text(alloc).ok()?.as_str() == r#"{"n":1}"#);
+/// ```
 #[derive(Drop)]
 pub struct Room {
     pub(crate) document: Tree,
@@ -102,6 +110,14 @@ impl Room {
     /// Forgets the changes of the oldest revisions until those held weigh no more than the budget
     /// ([`History::trim`]). A client that returns from an earlier revision gets a snapshot.
     /// Allocates nothing.
+    ///
+    /// ```
+    /// let mut room = Room::new(alloc, 64).ok()?;
+    /// let patch = Patch::from_owned(alloc, read(alloc, "[]").ok()?, PatchLimits::REQUEST).ok()?;
+    /// room.edit(alloc, ReservedRevision::new(alloc).ok()?, None, &patch).ok()?;
+    /// room.trim(Budget::Left(0));
+    /// assert!(rt; room.revision() == 1 && room.history_weight() == 0);
+    /// ```
     pub fn trim(&mut self, budget: Budget)
         ensures { self.new ≡ trimmed budget self.old }
     {
@@ -109,6 +125,11 @@ impl Room {
     }
 
     /// Returns the present document. Allocates nothing.
+    ///
+    /// ```
+    /// let room = Room::starting_at(alloc, read(alloc, "[1]").ok()?, 7, 64).ok()?;
+    /// assert!(rt; room.document().item(0)?.count() == Some(1));
+    /// ```
     pub fn document(&self) -> &Tree
         ensures kept { IsRoom self.now }
         ensures document { result.now ≡ self.now.document }
@@ -117,6 +138,14 @@ impl Room {
     }
 
     /// Returns the present revision. Allocates nothing.
+    ///
+    /// ```
+    /// let mut room = Room::new(alloc, 64).ok()?;
+    /// // An edit makes a revision, even if it changes nothing.
+    /// let patch = Patch::from_owned(alloc, read(alloc, "[]").ok()?, PatchLimits::REQUEST).ok()?;
+    /// room.edit(alloc, ReservedRevision::new(alloc).ok()?, None, &patch).ok()?;
+    /// assert!(rt; room.revision() == 1);
+    /// ```
     pub fn revision(&self) -> u64
         ensures kept { IsRoom self.now }
         ensures revision { result ≡ revision self.now }
@@ -126,6 +155,12 @@ impl Room {
 
     /// Returns the weight of the present document, which the room keeps, so that nothing is
     /// measured. Allocates nothing.
+    ///
+    /// ```
+    /// let room = Room::starting_at(alloc, read(alloc, r#"["abc"]"#).ok()?, 7, 64).ok()?;
+    /// // The list and the text, and the bytes of the text.
+    /// assert!(rt; room.weight() == 8 + 8 + 3);
+    /// ```
     pub fn weight(&self) -> u64
         ensures { result ≡ weight self.now.document }
     {
@@ -134,6 +169,15 @@ impl Room {
 
     /// Returns what the changes that it holds weigh together ([`History::weight`]). Allocates
     /// nothing.
+    ///
+    /// ```
+    /// let mut room = Room::starting_at(alloc, read(alloc, "[1]").ok()?, 7, 64).ok()?;
+    /// let ops = read(alloc, r#"[{"op": "add", "path": "/0", "value": 2}]"#).ok()?;
+    /// let patch = Patch::from_owned(alloc, ops, PatchLimits::REQUEST).ok()?;
+    /// room.edit(alloc, ReservedRevision::new(alloc).ok()?, None, &patch).ok()?;
+    /// // The change itself, its token "0", and the number.
+    /// assert!(rt; room.history_weight() == 64 + (8 + 1) + 8);
+    /// ```
     pub fn history_weight(&self) -> u64
         ensures { result ≡ history_weight self.now.history }
     {

@@ -19,6 +19,17 @@ impl Room {
     ///
     /// Costs a copy of the list of its changes, and a lookup of each of them
     /// ([`WatchIndex::touched`]).
+    ///
+    /// ```
+    /// let mut room = Room::starting_at(alloc, read(alloc, "[1]").ok()?, 7, 64).ok()?;
+    /// let mut watches = WatchIndex::new(alloc);
+    /// let view = View::read(alloc, &read(alloc, r#"[{"size": ""}]"#).ok()?).ok()?;
+    /// watches.put(alloc, 5, &view).ok()?;
+    /// let ops = read(alloc, r#"[{"op": "add", "path": "/-", "value": 2}]"#).ok()?;
+    /// let patch = Patch::from_owned(alloc, ops, PatchLimits::REQUEST).ok()?;
+    /// room.edit(alloc, ReservedRevision::new(alloc).ok()?, None, &patch).ok()?;
+    /// assert!(rt; room.touched(alloc, &watches).ok()?.as_slice() == [5].as_slice());
+    /// ```
     pub fn touched(&self, alloc: Global, watched: &WatchIndex) -> Result<Vec<u64>, AllocError>
         ensures rising { IfOk result (λ sessions. IsStrictlyIncreasing sessions.items) }
         ensures exact { IfOk result (λ sessions. (s : ℕ)

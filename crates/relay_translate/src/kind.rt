@@ -3,6 +3,16 @@ ghost use Rattle.std.specs.Prelude.{◌≡◌};
 ghost use Rattle.relay_translate.specs.Translate.{is_reset};
 
 /// How a change touches what a slot shows.
+///
+/// ```
+/// // An element was inserted before the one that a slot shows.
+/// let change = Change::AddItem {
+///     path: Pointer::read(alloc, "/items/0", 64).ok()?,
+///     value: Tree::of_count(7),
+/// };
+/// let second = Pointer::read(alloc, "/items/1", 64).ok()?;
+/// assert!(rt; touch(&change, &second, SlotKind::Value) == Touch::Reset);
+/// ```
 #[derive(Clone, Copy, Debug, PartialEq, Eq)]
 pub enum Touch {
     /// The slot shows what it showed before.

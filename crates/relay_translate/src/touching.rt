@@ -14,6 +14,15 @@ use relay_view::SlotKind;
 /// `Reset` if the value gains or loses a part, and else `Apart`; none is `Inside`. Costs a
 /// comparison of the paths. Allocates nothing. See `docs/PROTOCOL.md`, "What a change means to a
 /// slot".
+///
+/// ```
+/// let change = Change::DropItem { path: Pointer::read(alloc, "/items/3", 64).ok()? };
+/// let items = Pointer::read(alloc, "/items", 64).ok()?;
+/// assert!(rt; touch(&change, &items, SlotKind::Value) == Touch::Inside);
+/// assert!(rt; touch(&change, &items, SlotKind::Size) == Touch::Reset);
+/// let first = Pointer::read(alloc, "/items/0", 64).ok()?;
+/// assert!(rt; touch(&change, &first, SlotKind::Value) == Touch::Apart);
+/// ```
 pub fn touch(change: &Change, pointer: &Pointer, kind: SlotKind) -> Touch
     ensures exact { result ≡ touch change.now pointer.now kind }
     ensures table { result ≡ touch_by_table change.now pointer.now kind }

@@ -61,6 +61,17 @@ pub fn translate(
 ///
 /// No value is copied before it is paid for, so the cost is the number of changes times the number
 /// of slots, plus what the budget pays for.
+///
+/// ```
+/// let view = View::read(alloc, &read(alloc, r#"["/n"]"#).ok()?).ok()?;
+/// let path = Pointer::read(alloc, "/n", 64).ok()?;
+/// let change = Change::Set { path, value: Tree::of_count(7) };
+/// let now = read(alloc, r#"{"n": 7}"#).ok()?;
+/// // The operation sets "/0" to [7], which weighs 25.
+/// let some = translate_within(alloc, &[&change], &now, &view, Budget::Left(25)).ok()?;
+/// let none = translate_within(alloc, &[&change], &now, &view, Budget::Left(24)).ok()?;
+/// assert!(rt; some.is_some() && none.is_none());
+/// ```
 pub fn translate_within(
     alloc: Global,
     changes: &[&Change],

@@ -21,6 +21,16 @@ use std::marker::Model;
 
 /// The view of each session that watches. Contracts see it as a map from session numbers to views.
 /// It holds each view, and each pointer of all views once more.
+///
+/// ```
+/// let mut watches = WatchIndex::new(alloc);
+/// let size = View::read(alloc, &read(alloc, r#"[{"size": "/cards"}]"#).ok()?).ok()?;
+/// watches.put(alloc, 7, &size).ok()?;
+/// let path = Pointer::read(alloc, "/cards/0", 64).ok()?;
+/// let change = Change::Set { path, value: Tree::of_count(1) };
+/// // An element that is replaced does not touch the size.
+/// assert!(rt; watches.touched(alloc, &[&change]).ok()?.is_empty());
+/// ```
 #[derive(Drop)]
 pub struct WatchIndex {
     views: BTreeMap<u64, View>,
@@ -50,6 +60,12 @@ impl WatchIndex {
     ghost use Rattle.relay_translate.specs.Watches.{OthersStay, sees};
 
     /// Creates an index without views. Allocates nothing.
+    ///
+    /// ```
+    /// let watches = WatchIndex::new(alloc);
+    /// let change = Change::DropItem { path: Pointer::read(alloc, "/0", 64).ok()? };
+    /// assert!(rt; watches.touched(alloc, &[&change]).ok()?.is_empty());
+    /// ```
     pub fn new(alloc: Global) -> WatchIndex
         ensures { result ≡ map.empty }
     {
@@ -63,6 +79,16 @@ impl WatchIndex {
     /// Sets the view of a session, replacing any earlier one. If memory runs out, nothing changes.
     /// Costs a copy of the view, one of each pointer that is new, and a look-up for each slot of
     /// both views.
+    ///
+    /// ```
+    /// let mut watches = WatchIndex::new(alloc);
+    /// let cards = View::read(alloc, &read(alloc, r#"["/cards"]"#).ok()?).ok()?;
+    /// let title = View::read(alloc, &read(alloc, r#"["/title"]"#).ok()?).ok()?;
+    /// watches.put(alloc, 7, &cards).ok()?;
+    /// watches.put(alloc, 7, &title).ok()?;
+    /// let change = Change::DropItem { path: Pointer::read(alloc, "/cards/0", 64).ok()? };
+    /// assert!(rt; watches.touched(alloc, &[&change]).ok()?.is_empty());
+    /// ```
     pub fn put(&mut self, alloc: Global, session: u64, view: &View) -> Result<(), AllocError>
         ensures ok { OnOk result (self.new ≡ map.insert self.old session view.now) }
         ensures err { OnErr result (self.new ≡ self.old) }
@@ -74,6 +100,15 @@ impl WatchIndex {
 
     /// Removes the view of a session; changes nothing if it has none. Allocates nothing. Costs a
     /// look-up for each of its slots.
+    ///
+    /// ```
+    /// let mut watches = WatchIndex::new(alloc);
+    /// let cards = View::read(alloc, &read(alloc, r#"["/cards"]"#).ok()?).ok()?;
+    /// watches.put(alloc, 7, &cards).ok()?;
+    /// watches.take_out(7);
+    /// let change = Change::DropItem { path: Pointer::read(alloc, "/cards/0", 64).ok()? };
+    /// assert!(rt; watches.touched(alloc, &[&change]).ok()?.is_empty());
+    /// ```
     pub fn take_out(&mut self, session: u64)
         ensures { self.new ≡ map.remove self.old session }
     {

@@ -11,6 +11,12 @@ use crate::members::Members;
 use crate::tree::{Node, Tree};
 
 /// The weight that may still be spent.
+///
+/// ```
+/// let budget = Budget::Left(20);
+/// assert!(rt; budget.pay(8) == Some(Budget::Left(12)) && budget.pay(21) == None);
+/// assert!(rt; Budget::Unbounded.pay(21) == Some(Budget::Unbounded));
+/// ```
 #[derive(Clone, Copy, Debug, PartialEq, Eq)]
 pub enum Budget {
     /// Without a limit.
@@ -21,6 +27,11 @@ pub enum Budget {
 
 impl Budget {
     /// Returns what is left after `cost` is paid, or `None` if the budget is smaller than `cost`.
+    ///
+    /// ```
+    /// assert!(rt; Budget::Left(8).pay(8) == Some(Budget::Left(0)));
+    /// assert!(rt; Budget::Left(8).pay(9) == None);
+    /// ```
     pub fn pay(self, cost: u64) -> Option<Budget>
         ensures { result ≡ paid cost self }
     {
@@ -35,6 +46,13 @@ impl Tree {
     /// Returns what is left of `budget` after the tree's weight is paid, or `None` if the tree
     /// weighs more. Visits at most one value for each 8 of the budget, plus the one that exceeds
     /// it, and none if the budget is unbounded.
+    ///
+    /// ```
+    /// let board = read(alloc, r#"[7, "abc"]"#).ok()?;
+    /// // Three values, and the bytes of the text.
+    /// assert!(rt; board.pay(Budget::Left(30)) == Some(Budget::Left(30 - (3 * 8 + 3))));
+    /// assert!(rt; board.pay(Budget::Left(26)) == None);
+    /// ```
     pub fn pay(&self, budget: Budget) -> Option<Budget>
         ensures { result ≡ paid (weight self.now) budget }
     {

@@ -10,6 +10,14 @@ use std::alloc::{AllocError, Global};
 impl Tree {
     /// Returns an equal tree. Costs the tree's weight in time and memory. If memory runs out,
     /// nothing stays allocated.
+    ///
+    /// ```
+    /// let board = read(alloc, r#"{"cards": ["a", "b"]}"#).ok()?;
+    /// let mut copy = board.copy(alloc).ok()?;
+    /// assert!(rt; copy.same(&board));
+    /// copy.take_member("cards")?;
+    /// assert!(rt; !copy.same(&board));
+    /// ```
     pub fn copy(&self, alloc: Global) -> Result<Tree, AllocError>
         ensures { IfOk result (λ copy. copy ≡ self.now) }
     {

@@ -11,6 +11,13 @@ use std::slice;
 
 /// A tree behind a pointer. An insertion into a list, or a removal, moves the elements behind its
 /// place as one block of pointers, not of trees.
+///
+/// ```
+/// let mut items = Vec::new(alloc);
+/// items.push(Element::new(alloc, Tree::of_count(7)).ok()?).ok()?;
+/// let list = Tree::from(Node::List(items));
+/// assert!(rt; list.text(alloc).ok()?.as_str() == "[7]");
+/// ```
 #[cycle(tree)]
 #[derive(Drop)]
 pub struct Element {
@@ -37,6 +44,11 @@ impl Model for Element {
 
 impl Element {
     /// Moves a tree into an allocation of its own. If memory runs out, the tree comes back.
+    ///
+    /// ```
+    /// let element = Element::new(alloc, Tree::of_count(7)).ok()?;
+    /// assert!(rt; element.tree().count() == Some(7));
+    /// ```
     pub fn new(alloc: Global, tree: Tree) -> Result<Element, AllocFailed<Tree>>
         ensures ok { IfOk result (λ element. element ≡ tree) }
         ensures given_back { IfErr result (λ back. back.value ≡ tree) }
@@ -53,6 +65,12 @@ impl Element {
     }
 
     /// Borrows the tree for writing. Only what is written there changes.
+    ///
+    /// ```
+    /// let mut element = Element::new(alloc, Tree::of_count(7)).ok()?;
+    /// element.tree_mut().node = Node::Truth(true);
+    /// assert!(rt; element.tree().text(alloc).ok()?.as_str() == "true");
+    /// ```
     pub fn tree_mut(&mut self) -> &mut Tree
         ensures* writes_back { sem 𝓛
             (Lends element.the_row tree.the_row self.entry result (λ d. d)) }
@@ -62,6 +80,11 @@ impl Element {
     }
 
     /// Replaces the element's tree, which is dropped. Keeps the allocation and allocates nothing.
+    ///
+    /// ```
+    /// let element = Element::new(alloc, Tree::of_count(7)).ok()?.with_tree(Tree::of_count(8));
+    /// assert!(rt; element.tree().count() == Some(8));
+    /// ```
     pub fn with_tree(self, tree: Tree) -> Element
         ensures { result ≡ tree }
     {
@@ -71,6 +94,11 @@ impl Element {
     }
 
     /// Returns the tree and frees the element's allocation.
+    ///
+    /// ```
+    /// let element = Element::new(alloc, Tree::of_count(7)).ok()?;
+    /// assert!(rt; element.into_tree().count() == Some(7));
+    /// ```
     pub fn into_tree(self) -> Tree
         ensures { result ≡ self }
     {
@@ -79,6 +107,14 @@ impl Element {
 }
 
 /// Returns the elements of a list, in order.
+///
+/// ```
+/// let board = read(alloc, "[1, 2, 3]").ok()?;
+/// let Node::List(items) = &board.node else {
+///     return None;
+/// };
+/// assert!(rt; iter_items(items).filter(|item| item.tree().count() >= Some(2)).count() == 2);
+/// ```
 pub fn iter_items(items: &Vec<Element>) -> slice::Iter<'_, Element>
     ensures { result.rest.now ≡ items.now.items }
 {

@@ -12,6 +12,11 @@ pub(crate) const VALUE_WEIGHT: u64 = 8;
 
 impl Tree {
     /// Returns the number of levels; a scalar or an empty container has 1. Saturates at `u64::MAX`.
+    ///
+    /// ```
+    /// assert!(rt; read(alloc, "7").ok()?.depth() == 1 && read(alloc, "[]").ok()?.depth() == 1);
+    /// assert!(rt; read(alloc, r#"{"a": [7]}"#).ok()?.depth() == 3);
+    /// ```
     pub fn depth(&self) -> u64
         ensures { result ≡ saturated (depth self.now) }
     {

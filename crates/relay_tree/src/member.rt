@@ -9,6 +9,15 @@ use std::alloc::{AllocFailed, Global};
 
 /// Inserts a member, in place of an earlier one with the same name. If memory runs out, the members
 /// are unchanged, and the value comes back.
+///
+/// ```
+/// let mut members = Members::new(alloc);
+/// insert_member(alloc, &mut members, "b", Tree::of_count(1)).ok()?;
+/// insert_member(alloc, &mut members, "a", Tree::of_count(2)).ok()?;
+/// insert_member(alloc, &mut members, "b", Tree::of_count(3)).ok()?;
+/// let object = Tree::from(Node::Members(members));
+/// assert!(rt; object.text(alloc).ok()?.as_str() == r#"{"a":2,"b":3}"#);
+/// ```
 pub fn insert_member(
     alloc: Global,
     members: &mut Members,

@@ -13,6 +13,14 @@ use std::slice;
 
 /// The members of an object: values under names, each name once. Contracts see their names and
 /// values, in the byte order of the names, and the capacity.
+///
+/// ```
+/// let mut members = Members::new(alloc);
+/// members.insert(String::from_str(alloc, "b").ok()?, Tree::of_count(1)).ok()?;
+/// members.insert(String::from_str(alloc, "a").ok()?, Tree::of_count(2)).ok()?;
+/// assert!(rt; members.iter().next()?.0.as_str() == "a");
+/// assert!(rt; members.get("b")?.count() == Some(1));
+/// ```
 #[cycle(tree)]
 #[derive(Drop)]
 pub struct Members {
@@ -61,6 +69,10 @@ impl Members {
     ghost use Rattle.relay_tree.specs.Entries.{compared, order_to, refilled_entries, value_at, with_value, IsAscending};
 
     /// Returns no members. Allocates nothing.
+    ///
+    /// ```
+    /// assert!(rt; Members::new(alloc).len() == 0);
+    /// ```
     pub fn new(alloc: Global) -> Members
         ensures { result.entries ≡ [] }
     {
@@ -70,6 +82,12 @@ impl Members {
     }
 
     /// Returns no members, with capacity for so many.
+    ///
+    /// ```
+    /// let mut members = Members::with_capacity(alloc, 1).ok()?;
+    /// members.insert(String::from_str(alloc, "a").ok()?, Tree::of_count(1)).ok()?;
+    /// assert!(rt; members.len() == 1);
+    /// ```
     pub fn with_capacity(alloc: Global, len: usize) -> Result<Members, AllocError>
         ensures { IfOk result (λ members. (members.entries ≡ []) × (len ≤ members.capacity)) }
     {
@@ -79,6 +97,15 @@ impl Members {
     }
 
     /// Returns how many there are.
+    ///
+    /// ```
+    /// let board = read(alloc, r#"{"a": 1, "b": 2, "a": 3}"#).ok()?;
+    /// let Node::Members(members) = &board.node else {
+    ///     return None;
+    /// };
+    /// // A name that stands twice counts once.
+    /// assert!(rt; members.len() == 2);
+    /// ```
     pub fn len(&self) -> usize
         ensures len { result ≡ length self.now.entries }
         ensures ascending { IsAscending self.now.entries }
@@ -87,6 +114,15 @@ impl Members {
     }
 
     /// Returns the names and values, in the order of the names.
+    ///
+    /// ```
+    /// let board = read(alloc, r#"{"b": 1, "a": 2}"#).ok()?;
+    /// let Node::Members(members) = &board.node else {
+    ///     return None;
+    /// };
+    /// let mut names = members.iter().map(|(name, _)| name.as_str());
+    /// assert!(rt; names.next() == Some("a") && names.next() == Some("b") && names.next() == None);
+    /// ```
     pub fn iter(&self) -> slice::Iter<'_, (String, Tree)>
         ensures rest { result.rest.now ≡ self.now.entries }
         ensures ascending { IsAscending self.now.entries }
@@ -104,6 +140,12 @@ impl Members {
     }
 
     /// Returns the value under a name.
+    ///
+    /// ```
+    /// let mut members = Members::new(alloc);
+    /// members.insert(String::from_str(alloc, "a").ok()?, Tree::of_count(1)).ok()?;
+    /// assert!(rt; members.get("a")?.count() == Some(1) && members.get("b").is_none());
+    /// ```
     pub fn get(&self, name: &str) -> Option<&Tree>
         ensures { option_copied result ≡ value_at self.now.entries name.now }
     {
@@ -114,6 +156,13 @@ impl Members {
     }
 
     /// Borrows the value under a name for writing. Only what is written there changes.
+    ///
+    /// ```
+    /// let mut members = Members::new(alloc);
+    /// members.insert(String::from_str(alloc, "a").ok()?, Tree::of_count(1)).ok()?;
+    /// members.get_mut("a")?.node = Node::Null;
+    /// assert!(rt; members.get("a")?.text(alloc).ok()?.as_str() == "null");
+    /// ```
     pub fn get_mut(&mut self, name: &str) -> Option<&mut Tree>
         ensures* writes_back { sem 𝓛 (LendsSo the_row tree.the_row self.entry result
             (λ n value. n ≡ with_value self.old name.now value) (λ n. n ≡ self.old)) }
@@ -127,6 +176,14 @@ impl Members {
 
     /// Makes place for one more: for a quarter more than there are, so that an insertion is cheap
     /// on average. If memory runs out, the members are unchanged.
+    ///
+    /// ```
+    /// let mut members = Members::new(alloc);
+    /// members.reserve().ok()?;
+    /// // This insertion allocates nothing.
+    /// members.insert(String::from_str(alloc, "a").ok()?, Tree::of_count(1)).ok()?;
+    /// assert!(rt; members.len() == 1);
+    /// ```
     pub fn reserve(&mut self) -> Result<(), AllocError>
         ensures entries { self.new.entries ≡ self.old.entries }
         ensures ok { OnOk result (length self.new.entries < self.new.capacity) }
@@ -142,6 +199,13 @@ impl Members {
 
     /// Puts a value under a name, and returns the one that stood there. If memory runs out, the
     /// members are unchanged.
+    ///
+    /// ```
+    /// let mut members = Members::new(alloc);
+    /// let none = members.insert(String::from_str(alloc, "a").ok()?, Tree::of_count(1)).ok()?;
+    /// let one = members.insert(String::from_str(alloc, "a").ok()?, Tree::of_count(2)).ok()?;
+    /// assert!(rt; none.is_none() && one?.count() == Some(1) && members.len() == 1);
+    /// ```
     pub fn insert(&mut self, name: String, value: Tree) -> Result<Option<Tree>, AllocError>
         ensures entries { OnOk result
             (self.new.entries ≡ insert_entry string_cmp self.old.entries name value) }
@@ -161,6 +225,12 @@ impl Members {
     }
 
     /// Removes a member and returns its value. Allocates nothing.
+    ///
+    /// ```
+    /// let mut members = Members::new(alloc);
+    /// members.insert(String::from_str(alloc, "a").ok()?, Tree::of_count(1)).ok()?;
+    /// assert!(rt; members.remove("a")?.count() == Some(1) && members.remove("a").is_none());
+    /// ```
     pub fn remove(&mut self, name: &str) -> Option<Tree>
         ensures value { result ≡ value_at self.old.entries name.now }
         ensures entries { self.new.entries
@@ -179,6 +249,13 @@ impl Members {
 
     /// Puts a member back that was removed, without allocating: where there is place for one more,
     /// or else into `spare`, which takes over all members. Does nothing if `spare` has no place.
+    ///
+    /// ```
+    /// let mut members = Members::new(alloc);
+    /// let spare = Members::with_capacity(alloc, 1).ok()?;
+    /// members.put_back(String::from_str(alloc, "a").ok()?, Tree::of_count(1), spare);
+    /// assert!(rt; members.get("a")?.count() == Some(1));
+    /// ```
     pub fn put_back(&mut self, name: String, value: Tree, spare: Members)
         ensures entries { self.new.entries
             ≡ refilled_entries spare.capacity name value self.old.entries }

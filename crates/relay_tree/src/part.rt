@@ -18,6 +18,12 @@ use std::mem::replace;
 impl Tree {
     /// Returns the element at `index`, counted from 0, or `None` if the index is past the end or
     /// the tree is not a list.
+    ///
+    /// ```
+    /// let cards = read(alloc, r#"["a", "b"]"#).ok()?;
+    /// assert!(rt; cards.item(1)?.text(alloc).ok()?.as_str() == r#""b""#);
+    /// assert!(rt; cards.item(2).is_none());
+    /// ```
     pub fn item(&self, index: usize) -> Option<&Tree>
         ensures { option_copied result ≡ list_item self.now index }
     {
@@ -54,6 +60,13 @@ impl Tree {
     /// Takes the value of the member `name` out of an object, and leaves `null` there. Returns
     /// `None`, with the tree unchanged, if there is no such member or the tree is not an object.
     /// Allocates nothing.
+    ///
+    /// ```
+    /// let mut board = read(alloc, r#"{"cards": ["a", "b"]}"#).ok()?;
+    /// let cards = board.take_member("cards")?;
+    /// assert!(rt; cards.text(alloc).ok()?.as_str() == r#"["a","b"]"#);
+    /// assert!(rt; board.text(alloc).ok()?.as_str() == r#"{"cards":null}"#);
+    /// ```
     pub fn take_member(&mut self, name: &str) -> Option<Tree>
         ensures value { result ≡ object_member self.old name.now }
         ensures missing { result ≡ None → self.new ≡ self.old }
@@ -68,6 +81,11 @@ impl Tree {
 
     /// Returns the text of the member `name`, or `None` if there is no such member or it is not a
     /// text.
+    ///
+    /// ```
+    /// let done = read(alloc, r#"{"id":1,"kind":"done","rev":4}"#).ok()?;
+    /// assert!(rt; done.text_at("kind") == Some("done") && done.text_at("rev") == None);
+    /// ```
     pub fn text_at(&self, name: &str) -> Option<&str>
         ensures { option_map (λ text. text.now) result ≡ text_in self.now name.now }
     {
@@ -80,6 +98,11 @@ impl Tree {
 
 impl Node {
     /// Returns the number of elements of a list, or `None` if the node is not a list.
+    ///
+    /// ```
+    /// assert!(rt; read(alloc, "[1, 2]").ok()?.node.list_len() == Some(2));
+    /// assert!(rt; read(alloc, "{}").ok()?.node.list_len() == None);
+    /// ```
     pub fn list_len(&self) -> Option<usize>
         ensures len { result ≡ list_len (document_of self.now) }
         ensures few { IfSome result (λ n. n < 2 ^ 64) }
@@ -91,6 +114,11 @@ impl Node {
     }
 
     /// Returns the number of members of an object, or `None` if the node is not an object.
+    ///
+    /// ```
+    /// assert!(rt; read(alloc, r#"{"a": 1}"#).ok()?.node.members_len() == Some(1));
+    /// assert!(rt; read(alloc, "[1, 2]").ok()?.node.members_len() == None);
+    /// ```
     pub fn members_len(&self) -> Option<usize>
         ensures len { result ≡ members_len (document_of self.now) }
         ensures ordered { (ms : members_type) → document_of self.now ≡ object ms → IsOrdered ms }
@@ -103,6 +131,12 @@ impl Node {
 
     /// Borrows the element at `index` of a list, counted from 0, for writing. Only what is written
     /// there changes. Returns `None` if the index is past the end or the node is not a list.
+    ///
+    /// ```
+    /// let mut cards = read(alloc, "[1, 2]").ok()?;
+    /// cards.node.item_mut(0)?.node = Node::Whole(3);
+    /// assert!(rt; cards.text(alloc).ok()?.as_str() == "[3,2]");
+    /// ```
     pub fn item_mut(&mut self, index: usize) -> Option<&mut Tree>
         ensures* writes_back { sem 𝓛 (LendsItem self.entry index result) }
         ensures value { option_copied_mut result ≡ list_item (document_of self.old) index }
@@ -121,6 +155,12 @@ impl Node {
 
     /// Borrows the value of the member `name` of an object for writing. Only what is written there
     /// changes. Returns `None` if there is no such member or the node is not an object.
+    ///
+    /// ```
+    /// let mut board = read(alloc, r#"{"a": 1}"#).ok()?;
+    /// board.node.member_mut("a")?.node = Node::Whole(3);
+    /// assert!(rt; board.text(alloc).ok()?.as_str() == r#"{"a":3}"#);
+    /// ```
     pub fn member_mut(&mut self, name: &str) -> Option<&mut Tree>
         ensures* writes_back { sem 𝓛 (LendsMember self.entry name.now result) }
         ensures value { option_copied_mut result ≡ object_member (document_of self.old) name.now }

@@ -25,6 +25,12 @@ use std::alloc::{AllocError, Global};
 use thiserror::Error;
 
 /// Why a text does not read as a tree, in the order of the checks.
+///
+/// ```
+/// assert!(rt; matches!(read(alloc, "1e3"), Err(TreeFault::Number)));
+/// assert!(rt; matches!(read(alloc, "-0"), Err(TreeFault::Number)));
+/// assert!(rt; matches!(read(alloc, "{"), Err(TreeFault::NotJson)));
+/// ```
 #[derive(Clone, Copy, Debug, PartialEq, Eq, Error)]
 pub enum TreeFault {
     /// `serde_json` rejects the text: it is not JSON, or it nests more than 127 containers.
@@ -76,6 +82,13 @@ pub fn read(alloc: Global, text: &str) -> Result<Tree, TreeFault>
 
 /// Reads a text as [`read`] does, in memory that is kept from text to text: 16 KiB that a new
 /// `Scratch` clears, and as many bytes as the longest text had.
+///
+/// ```
+/// let mut scratch = Scratch::new(alloc);
+/// for text in ["[1]", r#"["two"]"#] {
+///     assert!(rt; read_with(alloc, text, &mut scratch).ok()?.text(alloc).ok()?.as_str() == text);
+/// }
+/// ```
 pub fn read_with(alloc: Global, text: &str, scratch: &mut Scratch) -> Result<Tree, TreeFault>
     ensures ok { IfOk result (λ tree. tree_of_text text.now ≡ Some tree) }
     ensures not_json { IfErr result (λ fault. fault ≡ NotJson → json.read text.now ≡ None) }

@@ -10,6 +10,13 @@ impl Tree {
     /// Returns whether both are the same document: the order in which members were written has no
     /// meaning, and texts are equal only code point by code point. Costs at most a walk of the
     /// smaller tree.
+    ///
+    /// ```
+    /// let one = read(alloc, r#"{"a": 1, "b": 2}"#).ok()?;
+    /// assert!(rt; one.same(&read(alloc, r#"{"b": 2, "a": 1}"#).ok()?));
+    /// // As RFC 6902, A.15, says: a number is no text.
+    /// assert!(rt; !read(alloc, "10").ok()?.same(&read(alloc, r#""10""#).ok()?));
+    /// ```
     pub fn same(&self, other: &Tree) -> bool
         ensures { IsTrue result ↔ (self.now ≡ other.now) }
     {

@@ -17,6 +17,11 @@ impl Tree {
     /// Returns the compact text: no white space, member names in byte order, whole numbers in
     /// decimal. The text of a tree that nests at most 127 containers reads back as that tree. Costs
     /// that one text and copies no part of the tree.
+    ///
+    /// ```
+    /// let board = read(alloc, r#"{ "b": [true, null], "a": -7 }"#).ok()?;
+    /// assert!(rt; board.text(alloc).ok()?.as_str() == r#"{"a":-7,"b":[true,null]}"#);
+    /// ```
     pub fn text(&self, alloc: Global) -> Result<String, AllocError>
         ensures text { IfOk result (λ text. string_bytes text ≡ text_of self.now) }
         ensures reads_back { IfOk result
@@ -30,6 +35,12 @@ impl Tree {
 }
 
 /// Returns a writer that has written nothing.
+///
+/// ```
+/// let mut out = begin_text(alloc).ok()?;
+/// read(alloc, "[1, 2]").ok()?.write(&mut out).ok()?;
+/// assert!(rt; end_text(out).as_str() == "[1,2]");
+/// ```
 pub fn begin_text(alloc: Global) -> Result<Writer, AllocError>
     ensures before { IfOk result (λ out. out.before ≡ []) }
     ensures tokens { IfOk result (λ out. out.tokens ≡ []) }
@@ -38,6 +49,12 @@ pub fn begin_text(alloc: Global) -> Result<Writer, AllocError>
 }
 
 /// Returns the text that a writer wrote, if it began with an empty buffer. Allocates nothing.
+///
+/// ```
+/// let mut out = begin_text(alloc).ok()?;
+/// Tree::of_count(7).write(&mut out).ok()?;
+/// assert!(rt; end_text(out).as_str() == "7");
+/// ```
 pub fn end_text(out: Writer) -> String
     requires { out.before ≡ [] }
     ensures text { string_bytes result ≡ print out.tokens }

@@ -9,6 +9,12 @@ use std::marker::Model;
 /// `&tree.node`.
 ///
 /// Dropping a tree, like any other walk over it, recurses once for each level of nesting.
+///
+/// ```
+/// let board = Tree::from(Node::Text(String::from_str(alloc, "board").ok()?));
+/// assert!(rt; board.text(alloc).ok()?.as_str() == r#""board""#);
+/// assert!(rt; board.depth() == 1 && board.weight() == 8 + 5);
+/// ```
 #[cycle(tree)]
 #[derive(Drop)]
 pub struct Tree {
@@ -16,6 +22,12 @@ pub struct Tree {
 }
 
 /// The six kinds of JSON value (RFC 8259, section 3). Members are in the byte order of their names.
+///
+/// ```
+/// assert!(rt; matches!(read(alloc, "7").ok()?.node, Node::Whole(7)));
+/// assert!(rt; matches!(read(alloc, "true").ok()?.node, Node::Truth(true)));
+/// assert!(rt; matches!(read(alloc, "{}").ok()?.node, Node::Members(_)));
+/// ```
 #[cycle(tree)]
 #[derive(Drop)]
 pub enum Node {

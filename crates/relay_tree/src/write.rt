@@ -14,6 +14,12 @@ impl Tree {
     /// Appends the tree to what `out` has written: member names in byte order, whole numbers in
     /// decimal. Costs the length of its text and copies nothing. If memory runs out, some of its
     /// first tokens may already be written.
+    ///
+    /// ```
+    /// let mut out = begin_text(alloc).ok()?;
+    /// read(alloc, r#"{"b": 1, "a": 2}"#).ok()?.write(&mut out).ok()?;
+    /// assert!(rt; end_text(out).as_str() == r#"{"a":2,"b":1}"#);
+    /// ```
     pub fn write(&self, out: &mut Writer) -> Result<(), AllocError>
         ensures tokens { OnOk result (out.new.tokens ≡ out.old.tokens ++ tokens_of self.now) }
         ensures before { out.new.before ≡ out.old.before }

@@ -4,6 +4,13 @@ use thiserror::Error;
 /// The reason why a tree is no view. A list that is too long is refused before its elements are
 /// checked. Of the elements, the first that is refused gives the fault, and `at` is its place,
 /// counted from 0.
+///
+/// ```
+/// let one = read(alloc, r#""/cards""#).ok()?;
+/// assert!(rt; matches!(View::read(alloc, &one), Err(ViewFault::Shape { at: None })));
+/// let second = read(alloc, r#"["/cards", 7]"#).ok()?;
+/// assert!(rt; matches!(View::read(alloc, &second), Err(ViewFault::Shape { at: Some(1) })));
+/// ```
 #[derive(Clone, Copy, Debug, PartialEq, Eq, Error)]
 pub enum ViewFault {
     /// More than [`crate::MAX_SLOTS`] slots.

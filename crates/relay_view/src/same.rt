@@ -7,6 +7,12 @@ use relay_pointer::same_path;
 
 impl View {
     /// Returns whether both views have the same slots in the same order. Allocates nothing.
+    ///
+    /// ```
+    /// let value = View::read(alloc, &read(alloc, r#"["/cards"]"#).ok()?).ok()?;
+    /// let size = View::read(alloc, &read(alloc, r#"[{"size": "/cards"}]"#).ok()?).ok()?;
+    /// assert!(rt; value.same(&value) && !value.same(&size));
+    /// ```
     pub fn same(&self, other: &View) -> bool
         ensures { IsTrue result ↔ (self.now ≡ other.now) }
     {

@@ -16,6 +16,13 @@ use std::alloc::{AllocError, Global};
 const LIST_WEIGHT: u64 = 8;
 
 /// What a slot shows.
+///
+/// ```
+/// let view = View::read(alloc, &read(alloc, r#"["", {"size": ""}]"#).ok()?).ok()?;
+/// assert!(rt; view.kind(0) == Some(SlotKind::Value) && view.kind(1) == Some(SlotKind::Size));
+/// let cards = read(alloc, r#"["a", "b"]"#).ok()?;
+/// assert!(rt; view.of(alloc, &cards).ok()?.text(alloc).ok()?.as_str() == r#"[[["a","b"]],[2]]"#);
+/// ```
 #[derive(Clone, Copy, Debug, PartialEq, Eq)]
 pub enum SlotKind {
     /// The value at the pointer.
@@ -25,6 +32,12 @@ pub enum SlotKind {
 }
 
 /// A slot: its pointer, and what it shows of the value there.
+///
+/// ```
+/// let slot = Slot { pointer: Pointer::read(alloc, "/cards", 64).ok()?, kind: SlotKind::Size };
+/// let board = read(alloc, r#"{"cards": ["a", "b"]}"#).ok()?;
+/// assert!(rt; slot.of(alloc, &board).ok()?.text(alloc).ok()?.as_str() == "[2]");
+/// ```
 #[derive(Drop)]
 pub struct Slot {
     pub pointer: Pointer,
@@ -34,6 +47,14 @@ pub struct Slot {
 impl Slot {
     /// Returns what the slot shows of a document: `[v]` if there is something to show, else `[]`.
     /// Copies the value; a size needs no copy.
+    ///
+    /// ```
+    /// let slot = Slot { pointer: Pointer::read(alloc, "/a", 64).ok()?, kind: SlotKind::Value };
+    /// let some = slot.of(alloc, &read(alloc, r#"{"a": null}"#).ok()?).ok()?;
+    /// let none = slot.of(alloc, &read(alloc, "{}").ok()?).ok()?;
+    /// assert!(rt; some.text(alloc).ok()?.as_str() == "[null]");
+    /// assert!(rt; none.text(alloc).ok()?.as_str() == "[]");
+    /// ```
     pub fn of(&self, alloc: Global, document: &Tree) -> Result<Tree, AllocError>
         ensures { IfOk result (λ seen. seen ≡ slot self.now document.now) }
     {
@@ -47,6 +68,14 @@ impl Slot {
     /// Pays the weight of what the slot shows of a document. Returns what is left of the budget, or
     /// `None` if the weight exceeds it. Walks no more of the value than the budget pays for.
     /// Allocates nothing.
+    ///
+    /// ```
+    /// let slot = Slot { pointer: Pointer::read(alloc, "/a", 64).ok()?, kind: SlotKind::Value };
+    /// let board = read(alloc, r#"{"a": 7}"#).ok()?;
+    /// // What it shows is [7]: a list and a number.
+    /// assert!(rt; slot.pay(&board, Budget::Left(16)) == Some(Budget::Left(0)));
+    /// assert!(rt; slot.pay(&board, Budget::Left(15)) == None);
+    /// ```
     #[tactic(auto, using(relay_tree::proofs::Budgets::paid_on, relay_tree::proofs::Budgets::paid_out))]
     pub fn pay(&self, document: &Tree, budget: Budget) -> Option<Budget>
         ensures { result ≡ paid (weight (slot self.now document.now)) budget }

@@ -10,6 +10,12 @@ pub const MAX_SLOTS: u64 = 16;
 
 /// A list of slots, each of which shows a value in a document, or its size. Contracts see it as
 /// that list.
+///
+/// ```
+/// let view = View::read(alloc, &read(alloc, r#"["/a", "/b"]"#).ok()?).ok()?;
+/// let shown = view.of(alloc, &read(alloc, r#"{"a": null}"#).ok()?).ok()?;
+/// assert!(rt; shown.text(alloc).ok()?.as_str() == "[[null],[]]");
+/// ```
 #[derive(Drop)]
 pub struct View {
     slots: Vec<Slot>,
@@ -30,6 +36,13 @@ impl Model for View {
 
 impl View {
     /// Creates a view of these slots. Allocates nothing.
+    ///
+    /// ```
+    /// let mut slots = Vec::new(alloc);
+    /// slots.push(Slot { pointer: Pointer::root(), kind: SlotKind::Size }).ok()?;
+    /// let view = View::of_slots(slots);
+    /// assert!(rt; view.same(&View::read(alloc, &read(alloc, r#"[{"size": ""}]"#).ok()?).ok()?));
+    /// ```
     pub fn of_slots(list: Vec<Slot>) -> View
         ensures { result ≡ list.items }
     {
@@ -37,6 +50,11 @@ impl View {
     }
 
     /// Returns the number of slots. Allocates nothing.
+    ///
+    /// ```
+    /// let view = View::read(alloc, &read(alloc, r#"["/a", "/a"]"#).ok()?).ok()?;
+    /// assert!(rt; view.len() == 2);
+    /// ```
     pub fn len(&self) -> u64
         ensures { result ≡ length self.now }
     {
@@ -45,6 +63,12 @@ impl View {
 
     /// Returns the pointer of slot `k`, counted from 0, or `None` past the last slot. Allocates
     /// nothing.
+    ///
+    /// ```
+    /// let view = View::read(alloc, &read(alloc, r#"["/a", {"size": "/b"}]"#).ok()?).ok()?;
+    /// assert!(rt; view.pointer(1)?.text(alloc).ok()?.as_str() == "/b");
+    /// assert!(rt; view.pointer(2).is_none());
+    /// ```
     pub fn pointer(&self, k: u64) -> Option<&Pointer>
         ensures { option_copied result ≡ option_map (λ s. s.pointer) (slice_get self.now k) }
     {
@@ -56,6 +80,11 @@ impl View {
 
     /// Returns what slot `k` shows, counted from 0, or `None` past the last slot. Allocates
     /// nothing.
+    ///
+    /// ```
+    /// let view = View::read(alloc, &read(alloc, r#"["/a", {"size": "/b"}]"#).ok()?).ok()?;
+    /// assert!(rt; view.kind(1) == Some(SlotKind::Size) && view.kind(2) == None);
+    /// ```
     pub fn kind(&self, k: u64) -> Option<SlotKind>
         ensures { result ≡ option_map (λ s. s.kind) (slice_get self.now k) }
     {
@@ -66,6 +95,11 @@ impl View {
     }
 
     /// Returns the slots, in order.
+    ///
+    /// ```
+    /// let view = View::read(alloc, &read(alloc, r#"["/a", {"size": "/b"}]"#).ok()?).ok()?;
+    /// assert!(rt; view.slots().len() == 2 && view.slots()[0].kind == SlotKind::Value);
+    /// ```
     pub fn slots(&self) -> &[Slot]
         ensures { result.now ≡ self.now }
     {

@@ -24,6 +24,17 @@ const SHED_ROUNDS: u64 = 1_024;
 impl<S: Read + Write + OpenStream + Drop, R: Readiness<S>> Server<S, R> {
     /// Ends every connection, by rising key, and does the wills that are left. If memory is refused
     /// for the end of one, it stays, with its session; if it is refused for a will, that is left.
+    ///
+    /// ```
+    /// let (wire, script) = (Wire::new(alloc), ReadinessScript::new(alloc));
+    /// let listener = MemoryListener::new(alloc);
+    /// let hub = Hub::new(alloc, 1, 1, 64, 32).ok()?;
+    /// let mut server = Server::new(alloc, hub, ScriptedReadiness::of(&script), 1_000_000);
+    /// listener.add(&wire)?;
+    /// server.round(alloc, &listener, &mut NoLog);
+    /// server.end(alloc, &mut NoLog);
+    /// assert!(rt; server.connections() == 0);
+    /// ```
     #[tactic(auto, using(crate::proofs::Rules::rounds))]
     pub fn end<J: ConnectionLog>(&mut self, alloc: Global, log: &mut J)
         ensures rounds { RoundsOf S.remaining S.contents self.old self.new }

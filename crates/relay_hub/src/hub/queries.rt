@@ -19,6 +19,11 @@ use std::alloc::Global;
 impl Hub {
     /// The configuration that it was made with. What holds of every hub holds of this one.
     /// Allocates nothing.
+    ///
+    /// ```
+    /// let hub = Hub::new(alloc, 1_700_000_000, 1, 64, 32).ok()?;
+    /// assert!(rt; hub.config() == HubConfig::new(1_700_000_000, 1, 64, 32));
+    /// ```
     pub fn config(&self) -> HubConfig
         ensures config { result ≡ self.now.config }
         ensures is { IsHub self.now }
@@ -28,12 +33,29 @@ impl Hub {
 
     /// How many messages its sessions drew since it was made, by kind. No clause speaks of these
     /// numbers. Allocates nothing.
+    ///
+    /// ```
+    /// let mut hub = Hub::new(alloc, 1, 1, 64, 32).ok()?;
+    /// let session = hub.open(alloc, "board", Access::ReadWrite).ok()?.session;
+    /// assert!(rt; hub.message_counts().replies == 0);
+    /// hub.draw(alloc, session).ok()??;
+    /// assert!(rt; hub.message_counts().replies == 1);
+    /// ```
     pub fn message_counts(&self) -> &MessageCounts {
         &self.counts
     }
 
     /// How many edits its rooms accepted since it was made, those of wills among them. No clause
     /// speaks of it. Allocates nothing.
+    ///
+    /// ```
+    /// let mut hub = Hub::new(alloc, 1, 1, 64, 32).ok()?;
+    /// let session = hub.open(alloc, "board", Access::ReadWrite).ok()?.session;
+    /// hub.receive(alloc, session, r#"{"do": "edit", "id": 1, "patch": []}"#).ok()?;
+    /// // An edit that is refused does not count.
+    /// hub.receive(alloc, session, r#"{"base": 0, "do": "edit", "id": 2, "patch": []}"#).ok()?;
+    /// assert!(rt; hub.edits() == 1);
+    /// ```
     pub fn edits(&self) -> u64 {
         self.report.edits
     }
@@ -41,6 +63,15 @@ impl Hub {
     /// What its texts, wills and draws cost since it was made: an estimate in microseconds on the
     /// machine of docs/PERFORMANCE.md, within a factor of about two, counted where the work is
     /// done. No clause speaks of it. Allocates nothing.
+    ///
+    /// ```
+    /// let mut hub = Hub::new(alloc, 1, 1, 64, 32).ok()?;
+    /// let session = hub.open(alloc, "board", Access::ReadWrite).ok()?.session;
+    /// let before = hub.cost();
+    /// let edit = r#"{"do": "edit", "id": 1, "patch": [{"op": "add", "path": "", "value": []}]}"#;
+    /// hub.receive(alloc, session, edit).ok()?;
+    /// assert!(rt; hub.cost() > before);
+    /// ```
     pub fn cost(&self) -> u64 {
         let nanos = self.report.cost.total();
         nanos.saturating_add(self.counts.cost.total()) / 1_000
@@ -75,6 +106,17 @@ impl Hub {
 
     /// Whether a text of the session would be answered: it is open, and fewer than 32 replies wait.
     /// Allocates nothing.
+    ///
+    /// ```
+    /// let mut hub = Hub::new(alloc, 1, 1, 64, 32).ok()?;
+    /// let session = hub.open(alloc, "board", Access::ReadWrite).ok()?.session;
+    /// for _ in 0..31 {
+    ///     hub.receive(alloc, session, r#"{"do": "unwatch", "id": 1}"#).ok()?;
+    /// }
+    /// assert!(rt; !hub.may_hear(session));
+    /// hub.draw(alloc, session).ok()??;
+    /// assert!(rt; hub.may_hear(session));
+    /// ```
     pub fn may_hear(&self, session: u64) -> bool
         ensures { result ≡ may_hear (session_of self.now session) }
     {
@@ -86,6 +128,15 @@ impl Hub {
 
     /// How many messages wait for the session: the number of draws that would return a text now.
     /// `None` if it is not open. Allocates nothing.
+    ///
+    /// ```
+    /// let mut hub = Hub::new(alloc, 1, 1, 64, 32).ok()?;
+    /// let session = hub.open(alloc, "board", Access::ReadWrite).ok()?.session;
+    /// hub.receive(alloc, session, r#"{"do": "watch", "id": 1, "view": [""]}"#).ok()?;
+    /// // The welcome, the reply, and the snapshot that is due.
+    /// assert!(rt; hub.waiting(session) == Some(3));
+    /// assert!(rt; hub.waiting(session + 1) == None);
+    /// ```
     pub fn waiting(&self, session: u64) -> Option<u64>
         ensures { result ≡ option_map waiting (session_of self.now session) }
     {
@@ -95,6 +146,14 @@ impl Hub {
 
     /// The index of the session's room ([`Hub::room_at`]), which it keeps while the session is
     /// open. `None` if it is not open. Allocates nothing.
+    ///
+    /// ```
+    /// let mut hub = Hub::new(alloc, 1, 1, 64, 32).ok()?;
+    /// hub.open(alloc, "board", Access::ReadWrite).ok()?;
+    /// let lobby = hub.open(alloc, "lobby", Access::ReadOnly).ok()?.session;
+    /// let index = hub.room_of(lobby)?;
+    /// assert!(rt; index == 1 && hub.room_at(index)?.name == "lobby");
+    /// ```
     pub fn room_of(&self, session: u64) -> Option<usize>
         ensures { result ≡ index_of self.now session }
     {
@@ -132,6 +191,15 @@ impl Hub {
 
     /// The name and the size of the room at an index, from 0. `None` if no room has that index or
     /// a later one. Allocates nothing.
+    ///
+    /// ```
+    /// let mut hub = Hub::new(alloc, 1, 1, 64, 32).ok()?;
+    /// hub.open(alloc, "board", Access::ReadWrite).ok()?;
+    /// hub.open(alloc, "board", Access::ReadOnly).ok()?;
+    /// let board = hub.room_at(0)?;
+    /// assert!(rt; board.name == "board" && board.sessions == 2);
+    /// assert!(rt; hub.room_at(1).is_none());
+    /// ```
     #[tactic(auto, using(crate::proofs::Representation::room_at, crate::proofs::Representation::no_room_at))]
     pub fn room_at(&self, index: usize) -> Option<RoomSummary<'_>>
         ensures { option_map shown_by result
@@ -142,6 +210,14 @@ impl Hub {
     }
 
     /// The name and the size of the room of a name. `None` if there is none. Allocates nothing.
+    ///
+    /// ```
+    /// let mut hub = Hub::new(alloc, 1, 1, 64, 32).ok()?;
+    /// let session = hub.open(alloc, "board", Access::ReadWrite).ok()?.session;
+    /// hub.receive(alloc, session, r#"{"do": "edit", "id": 1, "patch": []}"#).ok()?;
+    /// assert!(rt; hub.room_named("board")?.revision == 1);
+    /// assert!(rt; hub.room_named("lobby").is_none());
+    /// ```
     pub fn room_named(&self, name: &str) -> Option<RoomSummary<'_>>
         ensures { option_map shown_by result
             ≡ option_map summary_of (room_named name.now self.now.rooms) }
@@ -154,6 +230,17 @@ impl Hub {
 
     /// What the patches weigh that wait for all sessions, as far as that is bounded. No clause
     /// speaks of it. Allocates nothing.
+    ///
+    /// ```
+    /// let bound = Budget::Left(65_536);
+    /// let config = HubConfig { waiting_weight: bound, ..HubConfig::new(1, 1, 64, 32) };
+    /// let mut hub = Hub::with_config(alloc, config).ok()?;
+    /// let client = hub.open(alloc, "board", Access::ReadWrite).ok()?.session;
+    /// hub.receive(alloc, client, r#"{"do":"resume","id":1,"epoch":1,"rev":0,"view":[""]}"#).ok()?;
+    /// let edit = r#"{"do": "edit", "id": 2, "patch": [{"op": "add", "path": "", "value": 7}]}"#;
+    /// hub.receive(alloc, client, edit).ok()?;
+    /// assert!(rt; hub.waiting_weight() == 8 + 1 + 8 + 8); // The token "0", a list and a number.
+    /// ```
     pub fn waiting_weight(&self) -> u64 {
         let mut weight = 0u64;
         for (_, room_sessions) in self.rooms.iter() {

@@ -49,6 +49,12 @@ impl Patch {
 
     /// Reads a tree as [`Patch::from_tree`] does, but consumes it: its values move into the
     /// operations without a copy.
+    ///
+    /// ```
+    /// let ops = read(alloc, r#"[{"op": "add", "path": "/a", "value": [1]}]"#).ok()?;
+    /// let patch = Patch::from_owned(alloc, ops, PatchLimits::REQUEST).ok()?;
+    /// assert!(rt; matches!(&patch.ops()[0], Op::Add { value, .. } if value.depth() == 2));
+    /// ```
     pub fn from_owned(alloc: Global, tree: Tree, limits: PatchLimits) -> Result<Patch, PatchFault>
         ensures ok { IfOk result (λ patch. patch_of limits.ops limits.tokens tree ≡ Ok patch) }
         ensures err { IfErr result

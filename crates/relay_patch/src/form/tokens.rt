@@ -18,6 +18,14 @@ impl Patch {
     /// Appends the patch to what `out` has written. Costs the length of its text: each pointer's
     /// text is copied briefly, and no value is copied. If memory runs out, some of its first tokens
     /// may already be written.
+    ///
+    /// ```
+    /// let ops = read(alloc, r#"[{"path": "/a~1b", "op": "remove"}]"#).ok()?;
+    /// let patch = Patch::from_owned(alloc, ops, PatchLimits::REQUEST).ok()?;
+    /// let mut out = begin_text(alloc).ok()?;
+    /// patch.write(alloc, &mut out).ok()?;
+    /// assert!(rt; end_text(out).as_str() == r#"[{"op":"remove","path":"/a~1b"}]"#);
+    /// ```
     pub fn write(&self, alloc: Global, out: &mut Writer) -> Result<(), AllocError>
         ensures tokens { OnOk result
             (out.new.tokens ≡ out.old.tokens ++ tokens_of (patch_document self.now)) }

@@ -18,6 +18,13 @@ use std::alloc::{AllocError, Global};
 impl Patch {
     /// Returns the patch as a tree, which reads back as the patch under any limits that it is
     /// within. Costs a copy of its values.
+    ///
+    /// ```
+    /// let ops = read(alloc, r#"[{"op": "remove", "path": "/a", "why": "it is old"}]"#).ok()?;
+    /// let patch = Patch::from_tree(alloc, &ops, PatchLimits::REQUEST).ok()?;
+    /// let text = patch.to_tree(alloc).ok()?.text(alloc).ok()?;
+    /// assert!(rt; text.as_str() == r#"[{"op":"remove","path":"/a"}]"#);
+    /// ```
     pub fn to_tree(&self, alloc: Global) -> Result<Tree, AllocError>
         ensures form { IfOk result (λ tree. tree ≡ patch_document self.now) }
         ensures reads_back { IfOk result
