@@ -1,6 +1,6 @@
 //! The texts of patch and snapshot messages, written token by token: compact JSON, member names in
 //! byte order.
-ghost use Rattle.std.specs.Prelude.{◌≡◌, Some, [], ◌∷◌, ◌++◌, IfOk, string_bytes, codes, decimal};
+ghost use Rattle.std.specs.Prelude.{◌≡◌, ◌≤◌, ◌+◌, ◌*◌, Some, [], ◌∷◌, ◌++◌, IfOk, string_bytes, codes, decimal, length};
 ghost use Rattle.json.specs.Lex.{tokens};
 ghost use Rattle.json.specs.Print.{print};
 ghost use Rattle.json.specs.Token.{begin_object, end_object, key, string, number};
@@ -103,7 +103,9 @@ pub fn shown_text(
 
 /// About as many bytes as the text of a patch message has, so that it seldom grows: what the
 /// operations weigh, and their words.
-fn likely_length(patch: &Patch) -> usize {
+fn likely_length(patch: &Patch) -> usize
+    ensures { result ≤ OPERATION_BYTES * length patch.now + LIKELY_BYTES + MESSAGE_BYTES }
+{
     let carried = match patch.pay(Budget::Left(LIKELY_BYTES)) {
         Some(Budget::Left(left)) => LIKELY_BYTES.saturating_sub(left),
         _ => LIKELY_BYTES,

@@ -57,7 +57,7 @@ impl Model for Members {
 }
 
 impl Members {
-    ghost use Rattle.std.specs.Prelude.{◌≡◌, ◌<◌, ◌≤◌, [], length, string_bytes, string_cmp, IsOk, IfNone, IfOk, OnOk, OnErr, option_copied};
+    ghost use Rattle.std.specs.Prelude.{◌≡◌, ◌<◌, ◌≤◌, [], length, string_bytes, string_cmp, IsOk, IfNone, IfOk, OnOk, OnErr, option_copied, is_some, if◌then◌else◌};
     ghost use Rattle.std.specs.Borrow.{LendsSo, sem};
     ghost use Rattle.std.specs.BTreeMap.{is_at, insert_entry};
     ghost use Rattle.std.specs.Map.{remove_entry};
@@ -66,7 +66,7 @@ impl Members {
     ghost use Rattle.relay_tree.specs.contracts.tree.Tree as tree;
     ghost use Rattle.std.specs.List.Sorted.{IsSearchInRange};
     ghost use Rattle.std_collections.specs.Layout.BTreeMap.{seek};
-    ghost use Rattle.relay_tree.specs.Entries.{compared, order_to, refilled_entries, value_at, with_value, IsAscending};
+    ghost use Rattle.relay_tree.specs.Entries.{compared, grown_capacity, order_to, refilled_entries, value_at, with_value, IsAscending};
 
     /// Returns no members. Allocates nothing.
     ///
@@ -189,6 +189,8 @@ impl Members {
         ensures ok { OnOk result (length self.new.entries < self.new.capacity) }
         ensures err { OnErr result (self.new ≡ self.old) }
         ensures space { length self.old.entries < self.old.capacity → IsOk result }
+        ensures growth { OnOk result
+            (self.new.capacity ≡ grown_capacity (length self.old.entries) self.old.capacity) }
     {
         let len = self.entries.len();
         if len < self.entries.capacity() {
@@ -197,8 +199,9 @@ impl Members {
         self.entries.reserve_exact(len / 4 + 1)
     }
 
-    /// Puts a value under a name, and returns the one that stood there. If memory runs out, the
-    /// members are unchanged.
+    /// Puts a value under a name, and returns the one that stood there. Makes place as
+    /// [`Members::reserve`] does, if the name is new. If memory runs out, the members are
+    /// unchanged.
     ///
     /// ```
     /// let mut members = Members::new(alloc);
@@ -213,6 +216,9 @@ impl Members {
         ensures err { OnErr result (self.new ≡ self.old) }
         ensures space { length self.old.entries < self.old.capacity → IsOk result }
         ensures ascending { IsAscending self.old.entries }
+        ensures growth { IfOk result
+            (λ old. self.new.capacity ≡ (if is_some old then self.old.capacity
+            else grown_capacity (length self.old.entries) self.old.capacity)) }
     {
         match self.find(name.as_str()) {
             Ok(at) => Ok(Some(replace(&mut self.entries[at].1, value))),
@@ -236,6 +242,7 @@ impl Members {
         ensures entries { self.new.entries
             ≡ remove_entry (is_at (compared name.now)) self.old.entries }
         ensures unchanged { IfNone result (self.new ≡ self.old) }
+        ensures place { self.new.capacity ≤ self.old.capacity }
     {
         match self.find(name) {
             Ok(at) => {
@@ -283,7 +290,8 @@ impl Members {
 
     /// Gives back what is empty, once it is more than a quarter of the place.
     pub(crate) fn trim(&mut self)
-        ensures { self.new.entries ≡ self.old.entries }
+        ensures entries { self.new.entries ≡ self.old.entries }
+        ensures place { self.new.capacity ≤ self.old.capacity }
     {
         let len = self.entries.len();
         if self.entries.capacity() - len > len / 3 {

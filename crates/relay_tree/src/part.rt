@@ -1,9 +1,9 @@
 //! The parts of a tree one level down, which one token of a path can name.
-ghost use Rattle.std.specs.Prelude.{◌≡◌, ◌<◌, ◌^◌, ℕ, List as list_of, None, false, bytes_eq, IfSome, option_copied};
+ghost use Rattle.std.specs.Prelude.{◌≡◌, ◌<◌, ◌^◌, ℕ, List as list_of, None, false, bytes_eq, IfSome, OnSome, option_copied};
 ghost use Rattle.std.specs.Option.{option_map, option_copied_mut};
 ghost use Rattle.std.specs.Borrow.{LendsIf, sem};
-ghost use Rattle.relay_tree.specs.Document.{Members as members_type, object};
-ghost use Rattle.relay_tree.specs.Part.{list_len, members_len, list_item, object_member, text_in, IsOrdered};
+ghost use Rattle.relay_tree.specs.Document.{Members as members_type, null, object};
+ghost use Rattle.relay_tree.specs.Part.{list_len, members_len, list_item, object_member, text_in, with_member, IsOrdered};
 ghost use Rattle.relay_tree.specs.Seen.{document_of};
 ghost use Rattle.relay_tree.specs.Rows.{list_row, map_row, node_items, node_members};
 ghost use Rattle.relay_tree.specs.declared.tree.Node.TheVariants as kind;
@@ -69,6 +69,7 @@ impl Tree {
     /// ```
     pub fn take_member(&mut self, name: &str) -> Option<Tree>
         ensures value { result ≡ object_member self.old name.now }
+        ensures taken { OnSome result (self.new ≡ with_member self.old name.now null) }
         ensures missing { result ≡ None → self.new ≡ self.old }
         ensures others { (other : list_of ℕ) → bytes_eq name.now other ≡ false
             → object_member self.new other ≡ object_member self.old other }

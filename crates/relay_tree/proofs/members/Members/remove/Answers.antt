@@ -22,7 +22,7 @@ returns-in-Ok-clause-value c =
 pub returns-in-Ok-clause-entries : goal.returns-in-Ok-clause-entries
 returns-in-Ok-clause-entries c =
     let es = c.args.self.now.entries in
-    c.trim.ensures
+    c.trim.ensures.entries
     ∙ (c.remove-entry.ensures.items
     ∙ (ap (λ m. remove m.entries c.in-Ok.at) c.self.view_is
     ∙ (found_at (compared c.args.name.now) es c.in-Ok.at (sym c.in-Ok.ensures.place)).removes))

@@ -10,4 +10,4 @@ returns-in-Few c = λ ms are_read.
     let es = c.in-Few.members.entries in
     members_read ms (map as_read es) es
     (subst (λ object. AreRead ms (reading.members_read object)) c.in-Few.is are_read)
-    (each_read es) ∙ ap (λ es. Some (members_of es)) (sym c.trim.ensures)
+    (each_read es) ∙ ap (λ es. Some (members_of es)) (sym c.trim.ensures.entries)
