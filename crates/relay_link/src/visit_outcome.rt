@@ -1,6 +1,6 @@
 //! How a visit went.
 ghost use Rattle.std.specs.Prelude.{◌≡◌, ℕ, List, [], ◌∷◌, cond};
-ghost use Rattle.relay_link.specs.Visits.{heard_in};
+ghost use Rattle.relay_link.specs.Visits.{heard_in, lacked_memory};
 
 use relay_hub::{OpenFault, Opening};
 
@@ -30,7 +30,9 @@ impl VisitOutcome {
     }
 
     /// Whether memory was refused.
-    pub fn lacked_memory(self) -> bool {
+    pub fn lacked_memory(self) -> bool
+        ensures { result ≡ lacked_memory self }
+    {
         match self {
             VisitOutcome::Refused(fault) => fault == OpenFault::NoMemory,
             VisitOutcome::Unheard(_) | VisitOutcome::Undrawn(_) => true,
