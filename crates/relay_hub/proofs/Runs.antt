@@ -1,6 +1,7 @@
 -- Runs: a run continues by one step.
 use Rattle.std.proofs.Common.{◌≡◌, List, [], ◌∷◌, ◌++◌, length, Some, subst, slice_get}
 use Rattle.relay_hub.specs.Call.{Runs, stops, steps}
+use Rattle.relay_hub.specs.Memory.{TakesMemory, LacksMemory}
 use Rattle.relay_hub.specs.State.{State}
 use Rattle.relay_hub.specs.Step.{Step}
 use Rattle.relay_hub.specs.declared.event.Answer.{Answer}
@@ -26,3 +27,10 @@ run_more old mid new events answers event answer (steps was
     then now e rest a more first others) at step =
     steps was then new e rest a (more ++ answer ∷ []) first (run_more
     then now new rest more event answer others at step)
+
+-- memory was refused for the next event
+pub lacks_memory : (events : List Event) (answers : List Answer) (event : Event) (hub : State)
+    → slice_get events (length answers) ≡ Some event → TakesMemory hub event
+    → LacksMemory events answers hub
+lacks_memory events [] event hub at takes = tt
+lacks_memory events (answer ∷ answers) event hub at takes = rw at takes

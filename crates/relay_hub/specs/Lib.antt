@@ -16,6 +16,7 @@ pub mod Step
 pub mod CachedUpdate
 pub mod Watched
 pub mod Queries
+pub mod Memory
 pub mod Summary
 pub mod Told
 pub mod Call

@@ -1,6 +1,7 @@
--- What a hub returns for a session, when no hub can be made, and what a refused edit changes.
-use Rattle.std.specs.Prelude.{ℕ, ◌≡◌, ◌≢◌, map, ◌<◌, ◌⊎◌, Bool, false, length, nat_lt, Option, Some, None, option_map, option_and_then, List, Ok, Err}
-use Rattle.relay_limits.specs.declared.TheConstants.{MAX_COUNT, MAX_REVISIONS, MAX_ROOMS, MAX_SESSIONS, MAX_WAITING_PATCHES}
+-- What a hub returns for a session and of all sessions, when no hub can be made, and what a refused
+-- edit changes.
+use Rattle.std.specs.Prelude.{ℕ, ◌≡◌, ◌≢◌, map, ◌<◌, ◌⊎◌, Bool, false, length, nat_lt, sum_by, Option, Some, None, option_map, option_and_then, List, Ok, Err}
+use Rattle.relay_limits.specs.declared.TheConstants.{MAX_REVISIONS, MAX_WAITING_PATCHES, MAX_COUNT, MAX_ROOMS, MAX_SESSIONS}
 use Rattle.relay_outbox.specs.declared.outbox.TheConstants.{MAX_REPLIES}
 use Rattle.relay_patch.specs.declared.op.Op.{Op}
 use Rattle.relay_proto.specs.Request.{request_of_text}
@@ -14,6 +15,7 @@ use Rattle.relay_tree.specs.Document.{Document}
 use Rattle.relay_view.specs.View.{view}
 use Rattle.relay_hub.specs.declared.config.HubConfig.{HubConfig}
 use Rattle.relay_hub.specs.Admitted.{admitted}
+use Rattle.relay_hub.specs.Load.{bounded_weight}
 use Rattle.relay_hub.specs.Refusal.{refused, edit_refusal}
 use Rattle.relay_hub.specs.Session.{Session, replied}
 use Rattle.relay_hub.specs.State.{RoomSessions, State, home_of, session_in, session_of, without_sessions}
@@ -47,6 +49,14 @@ abbrev pub truth : State → ℕ → Option (Option (ℕ × Document))
 truth hub s =
     option_and_then (λ home.
     option_map (shown home.1.room) (session_in home.1.sessions s)) (home_of hub s)
+
+-- what the patches weigh that wait for the sessions of a room, as far as that is bounded
+abbrev pub sessions_weight : List Session → ℕ
+sessions_weight sessions = sum_by (λ x. bounded_weight x.budget x.outbox) sessions
+
+-- the same of all rooms
+abbrev pub rooms_weight : List (List ℕ × RoomSessions) → ℕ
+rooms_weight rooms = sum_by (λ room. sessions_weight room.1.sessions) rooms
 
 -- session s is y, and nothing else changed
 pub record LeavesNoTrace (s : ℕ) (y : Session) (old new : State) : Type 0 where

@@ -1,4 +1,7 @@
 //! The messages that the sessions of a hub drew, counted by kind.
+ghost use Rattle.std.specs.Prelude.{◌≡◌};
+ghost use Rattle.relay_proto.specs.Words.{word_text};
+
 use crate::cost_meter::CostMeter;
 use relay_proto::{Reply, Word};
 
@@ -82,7 +85,9 @@ pub struct SnapshotCounts {
 
 impl FaultCount {
     /// The word that refusals have for the fault.
-    pub fn word(&self) -> &'static str {
+    pub fn word(&self) -> &'static str
+        ensures { result.now ≡ word_text self.now.fault }
+    {
         self.fault.text()
     }
 }

@@ -1,6 +1,8 @@
 //! A room with its open sessions, and an index of the views that they watch, by which an edit finds
 //! the sessions that it touches.
 ghost use Rattle.std.specs.Prelude.{◌≡◌};
+ghost use Rattle.relay_tree.specs.Document.{saturated};
+ghost use Rattle.relay_hub.specs.Queries.{sessions_weight};
 ghost use Rattle.relay_hub.specs.State.{is_null};
 
 use crate::asked::{Asked, ask};
@@ -97,13 +99,11 @@ impl RoomSessions {
     }
 
     /// What the patches weigh that wait for its sessions, as far as that is bounded
-    /// ([`Session::load`]). Allocates nothing.
-    pub fn load(&self) -> u64 {
-        let mut load = 0u64;
-        for session in self.sessions.iter() {
-            load = load.saturating_add(session.load());
-        }
-        load
+    /// ([`Session::load`]); `u64::MAX` if that is more. Allocates nothing.
+    pub fn load(&self) -> u64
+        ensures { result ≡ saturated (sessions_weight self.now.sessions) }
+    {
+        load_of(self.sessions.as_slice())
     }
 
     /// How many bytes the text has that is kept of a snapshot; 0 if none is. Allocates nothing.
@@ -326,4 +326,15 @@ fn is_null(tree: &Tree) -> bool
     ensures { result ≡ is_null tree.now }
 {
     matches!(tree.node, Node::Null)
+}
+
+/// What the patches weigh that wait for these sessions, as far as that is bounded.
+fn load_of(sessions: &[Session]) -> u64
+    ensures { result ≡ saturated (sessions_weight sessions.now) }
+{
+    let mut load = 0u64;
+    for session in sessions {
+        load = load.saturating_add(session.load());
+    }
+    load
 }

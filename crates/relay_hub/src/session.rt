@@ -71,7 +71,7 @@ impl Session {
     ghost use Rattle.relay_outbox.specs.declared.outbox.TheConstants.{MAX_REPLIES};
     ghost use Rattle.relay_limits.specs.declared.TheConstants.{MAX_WAITING_PATCHES};
     ghost use Rattle.relay_room.specs.declared.catch_up.CatchUp.{CatchUp};
-    ghost use Rattle.relay_hub.specs.Load.{IsLoad};
+    ghost use Rattle.relay_hub.specs.Load.{IsLoad, bounded_weight};
     ghost use Rattle.relay_hub.specs.Update.{update_of, heard};
     ghost use Rattle.relay_hub.specs.Shed.{shed_session};
     ghost use Rattle.relay_hub.specs.SnapshotText.{IsSnapshotText};
@@ -144,9 +144,11 @@ impl Session {
         self.budget
     }
 
-    /// What the waiting patches weigh together, if that is bounded.
+    /// What the waiting patches weigh together, if that is bounded; 0 if not.
+    #[tactic(auto, using(crate::proofs::Loads::load_is))]
     pub fn load(&self) -> u64
-        ensures { IsLoad self.now.budget result self.now.outbox }
+        ensures load { IsLoad self.now.budget result self.now.outbox }
+        ensures weight { result ≡ bounded_weight self.now.budget self.now.outbox }
     {
         self.load
     }

@@ -8,9 +8,9 @@ use Rattle.relay_hub.specs.State.{State as Hub, session_of as hub_session}
 use Rattle.relay_hub.specs.declared.event.Event.{Event}
 use Rattle.relay_hub.specs.declared.event.Event.TheVariants.{Receive}
 use Rattle.relay_link.specs.Follows.{closing_of}
-use Rattle.relay_link.specs.Hears.{received_by, received, Passes, allowed_reads, text_of, ends_link, ReadsOn, ReadsOnce, Finds, Hears, PassesOn, SendsAndPassesOn, GoesOn, BeginsFresh, ReadsTexts, PassesTexts}
+use Rattle.relay_link.specs.Hears.{received_by, received, Passes, allowed_reads, text_of, ends_link, ReadsOn, ReadsOnce, Finds, Hears, HearsUnlessBlocked, PassesOn, SendsAndPassesOn, GoesOn, BeginsFresh, ReadsTexts, PassesTexts}
 use Rattle.relay_link.specs.Stage.{stage_of, session_of, entered, IsForward}
-use Rattle.relay_link.specs.Stream.{stream_of}
+use Rattle.relay_link.specs.Stream.{stream_of, is_blocked}
 use Rattle.relay_link.specs.Tells.{Hearing}
 use Rattle.relay_link.specs.Terms.{KeepsTerms}
 use Rattle.relay_link.proofs.Terms.{keeps_same}
@@ -20,6 +20,18 @@ use Rattle.relay_link.specs.declared.state.State.{State}
 use Rattle.relay_link.specs.declared.state.State.TheVariants.{Head, Replying, Open, Closing, Gone}
 
 -- ---- how many reads
+
+-- none of them, if the turn does not read, or the hub may not hear the session
+pub reads_none_of : (hub : Hub) (s most : ℕ) → most ≡ 0 → allowed_reads hub (Some s) most ≡ 0
+reads_none_of hub s most none = go (may_hear (hub_session hub s))
+  where
+    go : (may : Bool) → (if may then most else 0) ≡ 0
+    go true = none
+    go false = refl
+
+pub reads_none_busy : (hub : Hub) (s most : ℕ) → may_hear (hub_session hub s) ≡ false
+    → allowed_reads hub (Some s) most ≡ 0
+reads_none_busy hub s most busy = rw busy refl
 
 -- all of them, if the hub may hear the session
 reads_one : (hub : Hub) (s most : ℕ) → may_hear (hub_session hub s) ≡ true → most ≡ 1
@@ -97,15 +109,40 @@ module _ {S : Type 0} (remaining : S → Option (List ℕ)) where
   hears_nothing zero a = (refl, refl)
   hears_nothing (suc n) a = inl (refl, refl)
 
-  -- nothing was read, and no text was passed on
-  pub hearing_none : (most : ℕ) (before after : List Event) (a b : Socket (CorkedWriter S)) → b ≡ a
-      → after ≡ before → Hearing remaining most before after a b
-  hearing_none most before after a b same none = rw same (record {
+  unread : (most : ℕ) (a : Socket (CorkedWriter S)) → most ≡ 0
+      → HearsUnlessBlocked remaining most a a []
+  unread most a none = rw none (refl, refl)
+
+  blocked : (most : ℕ) (a : Socket (CorkedWriter S)) → is_blocked a.stream ≡ true
+      → HearsUnlessBlocked remaining most a a []
+  blocked zero a is = (refl, refl)
+  blocked (suc n) a is = inl (is, (refl, refl))
+
+  pub hears_at_most : (most : ℕ) (a b : Socket (CorkedWriter S)) (texts : List (List ℕ))
+      → HearsUnlessBlocked remaining most a b texts → Hears remaining most a b texts
+  hears_at_most zero a b texts nothing = nothing
+  hears_at_most (suc n) a b texts (inl none) = inl none.1
+  hears_at_most (suc n) a b texts (inr finds) = inr finds
+
+  -- no message may be read, and no text was passed on
+  pub hearing_none : (most : ℕ) (before after : List Event) (a b : Socket (CorkedWriter S))
+      → most ≡ 0 → b ≡ a → after ≡ before → Hearing remaining most before after a b
+  hearing_none most before after a b none same quiet = rw same (record {
     texts = [];
-    passes = passes_same before after none;
-    hears = hears_nothing most a;
+    passes = passes_same before after quiet;
+    hears = unread most a none;
     terms = keeps_same a.conn a.conn refl;
   })
+
+  -- the stream takes no output, so nothing was read
+  pub hearing_blocked : (most : ℕ) (before : List Event) (a : Socket (CorkedWriter S))
+      → is_blocked a.stream ≡ true → Hearing remaining most before before a a
+  hearing_blocked most before a is = record {
+    texts = [];
+    passes = passes_same before before refl;
+    hears = blocked most a is;
+    terms = keeps_same a.conn a.conn refl;
+  }
 
   -- the text that a read found was passed on, if it found one
   pub hearing_found : (before after : List Event) (a b : Socket (CorkedWriter S))
@@ -147,7 +184,12 @@ module _ {S : Type 0} (remaining : S → Option (List ℕ)) where
       → PassesOn remaining most a before after
   passes_on_heard most a b before middle after hearing none =
       let on = hearing_then most before middle after a b hearing none in
-      record { texts = on.texts; passes = on.passes; heard = b; hears = on.hears }
+      record {
+        texts = on.texts;
+        passes = on.passes;
+        heard = b;
+        hears = hears_at_most most a b on.texts on.hears;
+      }
 
   -- the same of a link that sends first
   pub sends_none : (most : ℕ) (a : Socket (CorkedWriter S)) (before after : List Event)

@@ -13,15 +13,16 @@ use Rattle.relay_hub.specs.declared.event.Event.{Event}
 use Rattle.relay_link.specs.Follows.{Point, at, IsOwn, no_opening, session_after, Follows, stays, makes, given, drawn_by, drawn}
 use Rattle.relay_link.specs.Frames.{text_frame, text_frames, framed, Frames}
 use Rattle.relay_link.specs.Stage.{stage_of, is_over, IsForward}
-use Rattle.relay_link.specs.Hears.{allowed_reads, Passes, Hears, SendsAndPassesOn, GoesOn, ReadsTexts}
+use Rattle.relay_link.specs.Hears.{allowed_reads, Passes, HearsUnlessBlocked, SendsAndPassesOn, GoesOn, ReadsTexts}
 use Rattle.relay_link.specs.Tells.{Drew, Tells, Hearing, Exchanges, Talks, IsServing, IfOpen, WhileOpen, Told, Answered}
 use Rattle.relay_link.specs.declared.stage.Stage.TheVariants as stage
 use Rattle.relay_link.specs.declared.state.State.{State}
 use Rattle.relay_link.specs.declared.turn.Turn.{Turn}
 use Rattle.relay_link.specs.declared.state.State.TheVariants.{Head, Replying, Open, Closing, Gone}
 use Rattle.relay_link.specs.declared.corked_writer.CorkedWriter.{CorkedWriter}
+use Rattle.relay_link.specs.Stream.{is_blocked}
 use Rattle.relay_link.specs.Terms.{Serves}
-use Rattle.relay_link.proofs.Hearing.{reads_on_same, reads_on_then, terms_kept, hearing_none, hearing_then, passes_then}
+use Rattle.relay_link.proofs.Hearing.{reads_on_same, reads_on_then, terms_kept, hears_at_most, hearing_blocked, hearing_then, passes_then}
 use Rattle.relay_link.proofs.Following.{went_on}
 use Rattle.relay_link.proofs.Terms.{keeps_then, serves_then}
 
@@ -178,15 +179,15 @@ module _ {S : Type 0} (remaining contents : S → Option (List ℕ)) where
 
   -- what waits has still to wait
   pub talked_none : (most : ℕ) (p : Point) (a b : Socket (CorkedWriter S)) → Frames contents a b []
-      → Talks remaining contents most p p a b
-  talked_none most p a b sent =
+      → is_blocked b.stream ≡ true → Talks remaining contents most p p a b
+  talked_none most p a b sent blocked =
       let reads = allowed_reads p.hub p.session most in
       record {
         ready = b;
         sent = sent;
         exchanges = record {
           heard = b;
-          hearing = hearing_none remaining reads p.events p.events b b refl refl;
+          hearing = hearing_blocked remaining reads p.events b blocked;
           tells = tells_start p b;
         };
       }
@@ -250,7 +251,8 @@ module _ {S : Type 0} (remaining contents : S → Option (List ℕ)) where
             texts = talks.exchanges.hearing.texts;
             passes = talks.exchanges.hearing.passes;
             heard = talks.exchanges.heard;
-            hears = talks.exchanges.hearing.hears;
+            hears = hears_at_most remaining _ talks.ready talks.exchanges.heard
+                talks.exchanges.hearing.texts talks.exchanges.hearing.hears;
           };
         };
         goes_on = talks.exchanges.tells.frames.reads_on;
@@ -287,7 +289,7 @@ module _ {S : Type 0} (remaining contents : S → Option (List ℕ)) where
 
   -- of no reads none is made
   reads_nothing : (may : Bool) (a b : Socket (CorkedWriter S)) (texts : List (List ℕ))
-      → Hears remaining (if may then 0 else 0) a b texts → (b ≡ a) × (texts ≡ [])
+      → HearsUnlessBlocked remaining (if may then 0 else 0) a b texts → (b ≡ a) × (texts ≡ [])
   reads_nothing true a b texts nothing = nothing
   reads_nothing false a b texts nothing = nothing
 

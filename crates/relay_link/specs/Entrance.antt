@@ -1,5 +1,5 @@
 -- In which rooms clients may enter, and what those are told who may not.
-use Rattle.std.specs.Prelude.{◌≡◌, ℕ, Bool, true, false, List, bytes_eq, string_bytes}
+use Rattle.std.specs.Prelude.{◌≡◌, ℕ, ◌==◌, ◌&&◌, nat_le, not, length, Bool, true, false, List, bytes_eq, string_bytes}
 use Rattle.std.specs.List.{list_any}
 use Rattle.relay_access.specs.declared.access.Access.{Access}
 use Rattle.relay_shake.specs.Replies.{closed_refusal, refusal_of}
@@ -15,6 +15,17 @@ lets_in (Only names) room = list_any (λ name. bytes_eq room (string_bytes name)
 -- the rooms in which they may
 abbrev pub Within : Entrance → Rooms
 Within entrance room access = lets_in entrance room ≡ true
+
+-- whether they may enter none
+abbrev pub is_closed : Entrance → Bool
+is_closed Open = false
+is_closed (Only names) = length names.keys == 0
+
+-- whether there is no place for one more: so many names are there, and this one is not among them
+abbrev pub is_full : Entrance → List ℕ → ℕ → Bool
+is_full Open room most = false
+is_full (Only names) room most =
+    not (lets_in (Only names) room) && nat_le most (length names.keys)
 
 -- the reply to a good head for which no session was opened, whether or not clients may enter there
 abbrev pub unserved_reply : Bool → List ℕ

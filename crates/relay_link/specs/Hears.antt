@@ -1,5 +1,5 @@
 -- What a link hears in a turn: the text that it reads, which it passes to the hub in the same turn.
-use Rattle.std.specs.Prelude.{◌≡◌, ◌⊎◌, ⊤, ℕ, Bool, true, false, zero, suc, List, [], ◌∷◌, ◌++◌, if◌then◌else◌, Option, None, Some, option_and_then, Result, Ok, Err}
+use Rattle.std.specs.Prelude.{◌≡◌, ◌⊎◌, ⊤, ℕ, Bool, true, false, zero, suc, length, sum_by, List, [], ◌∷◌, ◌++◌, if◌then◌else◌, Option, None, Some, option_and_then, Result, Ok, Err}
 use Rattle.relay_hub.specs.Queries.{may_hear}
 use Rattle.relay_hub.specs.State.{State as Hub, session_of}
 use Rattle.relay_hub.specs.declared.event.Event.{Event}
@@ -9,7 +9,7 @@ use Rattle.tungstenite.specs.declared.error.Error.{Error}
 use Rattle.tungstenite.specs.declared.message.Message.{Message}
 use Rattle.tungstenite.specs.declared.message.Message.TheVariants.{Text, Binary, Close}
 use Rattle.websocket.specs.declared.protocol.config.Role.TheVariants.{Server}
-use Rattle.relay_link.specs.Stream.{stream_of}
+use Rattle.relay_link.specs.Stream.{stream_of, is_blocked}
 use Rattle.relay_link.specs.declared.corked_writer.CorkedWriter.{CorkedWriter}
 use Rattle.relay_link.specs.declared.state.State.{State}
 use Rattle.relay_link.specs.declared.state.State.TheVariants as state
@@ -32,6 +32,14 @@ Passes before after texts = received after ≡ received before ++ texts
 abbrev pub allowed_reads : Hub → Option ℕ → ℕ → ℕ
 allowed_reads hub session most =
     if may_hear (option_and_then (session_of hub) session) then most else 0
+
+-- how many bytes the texts have that events pass to the hub
+abbrev pub received_len : Event → ℕ
+received_len (Receive s text) = length text
+received_len event = 0
+
+abbrev pub received_bytes : List Event → ℕ
+received_bytes events = sum_by received_len events
 
 -- the text of a message, if there is one and it is a text message (RFC 6455, section 5.6)
 abbrev pub text_of : Option Message → List (List ℕ)
@@ -89,6 +97,14 @@ module _ {S : Type 0} where
       → List (List ℕ) → Type 0
   Hears remaining zero old new texts = FindsNothing old new texts
   Hears remaining (suc n) old new texts = HearsOnce remaining old new texts
+
+  -- The same of a link that stays open. It reads whenever it may: only a stream that takes no output
+  -- keeps it from that.
+  abbrev pub HearsUnlessBlocked : (S → Option (List ℕ)) → ℕ → Socket (CorkedWriter S)
+      → Socket (CorkedWriter S) → List (List ℕ) → Type 0
+  HearsUnlessBlocked remaining zero old new texts = FindsNothing old new texts
+  HearsUnlessBlocked remaining (suc n) old new texts =
+      ((is_blocked old.stream ≡ true) × FindsNothing old new texts) ⊎ Finds remaining old new texts
 
   -- from one list of events to another, the texts were passed to the hub that the link passes on
   -- after at most so many reads: these, and no others

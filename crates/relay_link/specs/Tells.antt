@@ -7,7 +7,7 @@ use Rattle.relay_hub.specs.declared.event.Event.{Event}
 use Rattle.tungstenite.specs.Socket.{Socket}
 use Rattle.relay_link.specs.Follows.{Point, at, no_opening, Follows, drawn}
 use Rattle.relay_link.specs.Frames.{text_frames, framed, Frames}
-use Rattle.relay_link.specs.Hears.{allowed_reads, Hears, Passes, ReadsOn}
+use Rattle.relay_link.specs.Hears.{allowed_reads, HearsUnlessBlocked, Passes, ReadsOn}
 use Rattle.relay_link.specs.Terms.{Serves, KeepsTerms}
 use Rattle.relay_link.specs.declared.corked_writer.CorkedWriter.{CorkedWriter}
 use Rattle.relay_link.specs.declared.state.State.{State}
@@ -28,12 +28,12 @@ module _ {S : Type 0} where
     pub utf8 : AllByRecursion IsUtf8 (drawn follows)
     pub frames : Frames contents old new (text_frames (drawn follows))
 
-  -- the link hears at most so many messages, and passes texts on
+  -- the link hears at most so many messages, unless its stream is blocked, and passes texts on
   pub record Hearing (remaining : S → Option (List ℕ)) (most : ℕ) (before after : List Event)
       (old new : Socket (CorkedWriter S)) : Type 0 where
     pub texts : List (List ℕ)
     pub passes : Passes before after texts
-    pub hears : Hears remaining most old new texts
+    pub hears : HearsUnlessBlocked remaining most old new texts
     pub terms : KeepsTerms old.conn new.conn
 
   -- a link that has nothing to send hears, and then tells
@@ -80,9 +80,10 @@ module _ {S : Type 0} where
     pub frames : Appends (framed contents old) (framed contents new) (text_frames texts)
     pub reads_on : ReadsOn old new
 
-  -- A session's link may read once, while the hub hears the session. What was framed before it
-  -- reads stays, and what the read itself sends is as the WebSocket says of it. The text that the
-  -- read finds is what the events pass to the hub; the next turn reads on behind it.
+  -- A session's link reads once if the hub hears the session, unless its stream takes no output.
+  -- What was framed before it reads stays, and what the read itself sends is as the WebSocket says
+  -- of it. The text that the read finds is what the events pass to the hub; the next turn reads on
+  -- behind it.
   pub record ReadsFirst (remaining contents : S → Option (List ℕ)) (hub : Hub)
       (session : Option ℕ) (before after : List Event) (old heard : Socket (CorkedWriter S))
       : Type 0 where
@@ -91,7 +92,7 @@ module _ {S : Type 0} where
     pub reads_on : ReadsOn old ready
     pub texts : List (List ℕ)
     pub passes : Passes before after texts
-    pub hears : Hears remaining (allowed_reads hub session 1) ready heard texts
+    pub hears : HearsUnlessBlocked remaining (allowed_reads hub session 1) ready heard texts
 
   -- the texts that the events drew were framed, and nothing else
   pub record Told (contents : S → Option (List ℕ)) (p q : Point) (old new : Socket (CorkedWriter S))
@@ -99,7 +100,7 @@ module _ {S : Type 0} where
     pub follows : Follows no_opening p q
     pub framed : FramesTexts contents old new (drawn follows)
 
-  -- the same of a turn that may read before
+  -- the same of a turn that reads before, if it may
   pub record Answered (remaining contents : S → Option (List ℕ)) (p q : Point)
       (old new : Socket (CorkedWriter S)) : Type 0 where
     pub heard : Socket (CorkedWriter S)

@@ -1,5 +1,5 @@
 -- The contract of a visit: a session that opens, says one text, draws what waits and closes.
-use Rattle.std.specs.Prelude.{◌≡◌, ◌+◌, ◌<◌, ◌≤◌, ◌⊎◌, ⊤, ℕ, List, [], ◌∷◌, ◌++◌, map, length, Option, None, Some, option_to_list, Result, Ok, Err, string_bytes}
+use Rattle.std.specs.Prelude.{◌≡◌, ◌+◌, ◌<◌, ◌≤◌, ◌⊎◌, ⊤, ℕ, Bool, true, false, List, [], ◌∷◌, ◌++◌, map, length, Option, None, Some, option_to_list, Result, Ok, Err, string_bytes}
 use Rattle.relay_hub.specs.Call.{opening}
 use Rattle.relay_hub.specs.State.{State as Hub}
 use Rattle.relay_hub.specs.declared.event.Answer.{Answer}
@@ -7,6 +7,7 @@ use Rattle.relay_hub.specs.declared.event.Event.{Event}
 use Rattle.relay_hub.specs.declared.event.Event.TheVariants.{Open}
 use Rattle.relay_hub.specs.declared.event.Opening.{Opening}
 use Rattle.relay_hub.specs.declared.fault.OpenFault.{OpenFault}
+use Rattle.relay_hub.specs.declared.fault.OpenFault.TheVariants.{NoMemory}
 use Rattle.relay_access.specs.declared.access.Access.{Access}
 use Rattle.relay_link.specs.Adds.{draws}
 use Rattle.relay_link.specs.Follows.{Point, Rooms, is_room, at, Follows, stays, makes, drawn}
@@ -55,6 +56,14 @@ heard_in _ text = []
 abbrev pub DrewAll : {A : Type 0} → List Event → List Event → List A → Type 0
 DrewAll before after texts =
     (draws before + length texts < draws after) ⊎ (length texts ≡ MAX_TEXTS)
+
+-- whether memory was refused in a visit
+abbrev pub lacked_memory : VisitOutcome → Bool
+lacked_memory (Refused NoMemory) = true
+lacked_memory (Refused fault) = false
+lacked_memory (Unheard o) = true
+lacked_memory (Undrawn o) = true
+lacked_memory (Answered o) = false
 
 abbrev pub IfAnswered : VisitOutcome → Type 0 → Type 0
 IfAnswered (Answered o) holds = holds

@@ -1,6 +1,6 @@
 //! In which rooms clients may enter.
-ghost use Rattle.std.specs.Prelude.{◌≡◌, ◌≢◌, ℕ, List, true, false, OnOk, OnErr};
-ghost use Rattle.relay_link.specs.Entrance.{lets_in};
+ghost use Rattle.std.specs.Prelude.{◌≡◌, ◌≢◌, ◌↔◌, ℕ, List, true, false, IfErr, IsErr, IsErrOf, OnOk, OnErr};
+ghost use Rattle.relay_link.specs.Entrance.{lets_in, is_closed, is_full};
 
 use crate::entrance_fault::EntranceFault;
 use indexmap::IndexSet;
@@ -29,7 +29,8 @@ impl Entrance {
     /// assert!(rt; !Entrance::closed(alloc).lets_in("board"));
     /// ```
     pub fn closed(alloc: Global) -> Entrance
-        ensures { (room : List ℕ) → lets_in result room ≡ false }
+        ensures none { (room : List ℕ) → lets_in result room ≡ false }
+        ensures closed { is_closed result ≡ true }
     {
         Entrance::Only(IndexSet::new(alloc))
     }
@@ -42,7 +43,9 @@ impl Entrance {
     /// entrance.admit(alloc, "board", 64).ok()?;
     /// assert!(rt; !entrance.is_closed());
     /// ```
-    pub fn is_closed(&self) -> bool {
+    pub fn is_closed(&self) -> bool
+        ensures { result ≡ is_closed self.now }
+    {
         matches!(self, Entrance::Only(names) if names.is_empty())
     }
 
@@ -71,6 +74,9 @@ impl Entrance {
     /// ```
     pub fn admit(&mut self, alloc: Global, room: &str, most: u64) -> Result<(), EntranceFault>
         ensures admitted { OnOk result (lets_in self.new room.now ≡ true) }
+        ensures full { IsErrOf result EntranceFault.Full
+            ↔ (is_full self.old room.now most ≡ true) }
+        ensures fault { IfErr result (λ fault. fault ≢ EntranceFault.AllOpen) }
         ensures unchanged { OnErr result
             ((name : List ℕ) → lets_in self.new name ≡ lets_in self.old name) }
         ensures others { (name : List ℕ) → name ≢ room.now →
@@ -103,6 +109,8 @@ impl Entrance {
     /// ```
     pub fn exclude(&mut self, room: &str) -> Result<(), EntranceFault>
         ensures excluded { OnOk result (lets_in self.new room.now ≡ false) }
+        ensures all_open { IsErr result ↔ (self.old ≡ Entrance.Open) }
+        ensures fault { IfErr result (λ fault. fault ≡ EntranceFault.AllOpen) }
         ensures unchanged { OnErr result (self.new ≡ self.old) }
         ensures others { (name : List ℕ) → name ≢ room.now →
             lets_in self.new name ≡ lets_in self.old name }

@@ -19,6 +19,11 @@ pub enum EntranceFault {
 }
 
 impl From<AllocError> for EntranceFault {
+    ghost use Rattle.std.specs.Prelude.{◌≡◌};
+    ghost use Rattle.relay_link.specs.declared.entrance_fault.EntranceFault.TheVariants.{NoMemory};
+
+    ghost from_gives = { λ _ fault. fault ≡ NoMemory };
+
     fn from(_: AllocError) -> EntranceFault {
         EntranceFault::NoMemory
     }

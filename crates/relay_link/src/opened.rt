@@ -196,7 +196,7 @@ fn hear_and_draw<S: Read + Write + Drop>(
 }
 
 /// Reads one message and passes its text to the hub, if the turn reads and the session is not busy.
-#[tactic(auto, using(crate::proofs::Following::follows_same, crate::proofs::Telling::drew_same, crate::proofs::Hearing::passes_same, crate::proofs::Hearing::hearing_none, crate::proofs::Hearing::hearing_most))]
+#[tactic(auto, using(crate::proofs::Following::follows_same, crate::proofs::Telling::drew_same, crate::proofs::Hearing::passes_same, crate::proofs::Hearing::hearing_none, crate::proofs::Hearing::hearing_most, crate::proofs::Hearing::reads_none_of, crate::proofs::Hearing::reads_none_busy))]
 fn hear<S: Read + Write + Drop>(
     alloc: Global,
     socket: &mut Socket<S>,

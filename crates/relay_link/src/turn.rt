@@ -1,7 +1,8 @@
 //! The result of one turn of a link.
-ghost use Rattle.std.specs.Prelude.{◌≡◌};
+ghost use Rattle.std.specs.Prelude.{◌≡◌, min};
 ghost use Rattle.std.specs.List.{list_any};
 ghost use Rattle.relay_link.specs.Adds.{is_receive, is_draw};
+ghost use Rattle.relay_link.specs.Hears.{received_len, received_bytes};
 
 use crate::draw_stop::DrawStop;
 use crate::end_cause::EndCause;
@@ -63,7 +64,8 @@ impl Turn {
             .any(|event| matches!(event, Event::Receive { .. }))
     }
 
-    /// How many bytes the texts have that the turn passed to the hub. Allocates nothing.
+    /// How many bytes the texts have that the turn passed to the hub; `u64::MAX` if they have more.
+    /// Allocates nothing.
     ///
     /// ```
     /// let wire = Wire::new(alloc);
@@ -75,14 +77,10 @@ impl Turn {
     /// let turn = link.turn(alloc, &mut hub, MAX_DRAWS).ok()?;
     /// assert!(rt; turn.received() == r#"{"id":7}"#.len() as u64);
     /// ```
-    pub fn received(&self) -> u64 {
-        let mut bytes = 0u64;
-        for event in self.events.iter() {
-            if let Event::Receive { text, .. } = event {
-                bytes = bytes.saturating_add(text.as_str().len() as u64);
-            }
-        }
-        bytes
+    pub fn received(&self) -> u64
+        ensures { result ≡ min (received_bytes self.now.events.items) u64.MAX }
+    {
+        bytes_received(self.events.as_slice())
     }
 
     /// Whether the turn made a draw, with or without a text. Allocates nothing.
@@ -102,5 +100,25 @@ impl Turn {
         self.events
             .iter()
             .any(|event| matches!(event, Event::Draw { .. }))
+    }
+}
+
+fn bytes_received(events: &[Event]) -> u64
+    ensures { result ≡ min (received_bytes events.now) u64.MAX }
+{
+    let mut bytes = 0u64;
+    for event in events {
+        bytes = bytes.saturating_add(len_received(event));
+    }
+    bytes
+}
+
+/// How many bytes the text has that an event passes to the hub; 0 if it passes none.
+fn len_received(event: &Event) -> u64
+    ensures { result ≡ received_len event.now }
+{
+    match event {
+        Event::Receive { text, .. } => text.as_str().len() as u64,
+        _ => 0,
     }
 }

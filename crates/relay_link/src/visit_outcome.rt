@@ -1,6 +1,6 @@
 //! How a visit went.
 ghost use Rattle.std.specs.Prelude.{◌≡◌, ℕ, List, [], ◌∷◌, cond};
-ghost use Rattle.relay_link.specs.Visits.{heard_in};
+ghost use Rattle.relay_link.specs.Visits.{heard_in, lacked_memory};
 
 use relay_hub::{OpenFault, Opening};
 
@@ -49,7 +49,9 @@ impl VisitOutcome {
     /// assert!(rt; VisitOutcome::Refused(OpenFault::NoMemory).lacked_memory());
     /// assert!(rt; !VisitOutcome::Refused(OpenFault::RoomsFull).lacked_memory());
     /// ```
-    pub fn lacked_memory(self) -> bool {
+    pub fn lacked_memory(self) -> bool
+        ensures { result ≡ lacked_memory self }
+    {
         match self {
             VisitOutcome::Refused(fault) => fault == OpenFault::NoMemory,
             VisitOutcome::Unheard(_) | VisitOutcome::Undrawn(_) => true,

@@ -1,17 +1,21 @@
 //! What a hub tells of itself. Nothing here changes it.
 ghost use Rattle.std.specs.Prelude.{◌≡◌, ◌≢◌, ◌↔◌, Some, None, IfOk, IsErrOf, option_map, slice_get};
 ghost use Rattle.relay_hub.specs.State.{IsHub, index_of, session_of};
+ghost use Rattle.relay_hub.specs.Representation.{rooms_of};
 ghost use Rattle.relay_hub.specs.Session.{waiting};
 ghost use Rattle.relay_hub.specs.Summary.{room_named, shown_by, summary_of};
-ghost use Rattle.relay_hub.specs.Queries.{room_and_session, may_hear, truth};
+ghost use Rattle.relay_tree.specs.Document.{saturated};
+ghost use Rattle.relay_hub.specs.Queries.{room_and_session, may_hear, rooms_weight, truth};
 
 use super::Hub;
 use crate::config::HubConfig;
 use crate::fault::HubFault;
 use crate::message_counts::MessageCounts;
+use crate::room_sessions::RoomSessions;
 use crate::session::Session;
 use crate::summary::{RoomSummary, summary_of};
 use crate::told::Told;
+use indexmap::IndexMap;
 use relay_room::Room;
 use relay_tree::Tree;
 use std::alloc::Global;
@@ -228,8 +232,8 @@ impl Hub {
         }
     }
 
-    /// What the patches weigh that wait for all sessions, as far as that is bounded. No clause
-    /// speaks of it. Allocates nothing.
+    /// What the patches weigh that wait for all sessions, as far as that is bounded
+    /// ([`HubConfig::waiting_weight`]); `u64::MAX` if that is more. Allocates nothing.
     ///
     /// ```
     /// let bound = Budget::Left(65_536);
@@ -241,11 +245,23 @@ impl Hub {
     /// hub.receive(alloc, client, edit).ok()?;
     /// assert!(rt; hub.waiting_weight() == 8 + 1 + 8 + 8); // The token "0", a list and a number.
     /// ```
-    pub fn waiting_weight(&self) -> u64 {
-        let mut weight = 0u64;
-        for (_, room_sessions) in self.rooms.iter() {
-            weight = weight.saturating_add(room_sessions.load());
-        }
-        weight
+    pub fn waiting_weight(&self) -> u64
+        ensures { result ≡ saturated (rooms_weight self.now.rooms) }
+    {
+        weight_of_rooms(&self.rooms)
     }
+}
+
+/// What the patches weigh that wait for the sessions of all rooms, as far as that is bounded.
+fn weight_of_rooms(rooms: &IndexMap<String, RoomSessions>) -> u64
+    ensures { result ≡ saturated (rooms_weight (rooms_of rooms.now.entries)) }
+{
+    let mut weight = 0u64;
+    for index in 0..rooms.len() {
+        let Some((_, room_sessions)) = rooms.get_index(index) else {
+            unreachable!()
+        };
+        weight = weight.saturating_add(room_sessions.load());
+    }
+    weight
 }

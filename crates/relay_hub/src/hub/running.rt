@@ -2,6 +2,7 @@
 ghost use Rattle.std.specs.Prelude.{◌≡◌, ◌<◌, ◌⊎◌, IfOk, IfErr, OnErr, length};
 ghost use Rattle.relay_hub.specs.Call.{done, followed, Runs};
 ghost use Rattle.relay_hub.specs.Log.{Log};
+ghost use Rattle.relay_hub.specs.Memory.{TakesMemory, LacksMemory};
 ghost use Rattle.relay_hub.specs.Stands.{StandsFor, EachHoldsPresent, EachIsAtNamed};
 ghost use Rattle.relay_hub.specs.Step.{Step};
 ghost use Rattle.relay_hub.specs.declared.config.HubConfig.{HubConfig};
@@ -15,9 +16,9 @@ use std::alloc::{AllocError, Global};
 impl Hub {
     /// Carries out events, in order. The space for all answers is allocated before the first event.
     /// If memory runs out the run stops: the events of the fault's answers were done, and the next
-    /// one changed nothing. Either way each client that watches, and applies what was drawn for it
-    /// and what waits, in order, holds exactly its view of the present document, and after each of
-    /// these messages its view of the revision that the message names.
+    /// one, which takes memory, changed nothing. Either way each client that watches, and applies
+    /// what was drawn for it and what waits, in order, holds exactly its view of the present
+    /// document, and after each of these messages its view of the revision that the message names.
     ///
     /// ```
     /// let mut hub = Hub::new(alloc, 1, 1, 64, 32).ok()?;
@@ -39,6 +40,8 @@ impl Hub {
             Runs self.old events.now fault.answers.items self.new) }
         ensures before { IfErr result (λ fault. (length events.now ≡ 0)
             ⊎ (length fault.answers.items < length events.now)) }
+        ensures no_memory { IfErr result (λ fault.
+            LacksMemory events.now fault.answers.items self.new) }
         ensures stands { (b : HubConfig) (E : Log) → StandsFor b E self.old
             → StandsFor b (followed E events.now (done result)) self.new }
         ensures exact { (b : HubConfig) (E : Log) → StandsFor b E self.old
@@ -64,6 +67,7 @@ impl Hub {
     fn carry_out(&mut self, alloc: Global, event: &Event) -> Result<Answer, AllocError>
         ensures ok { IfOk result (λ answer. Step self.old event.now answer self.new) }
         ensures err { OnErr result (self.new ≡ self.old) }
+        ensures no_memory { OnErr result (TakesMemory self.old event.now) }
     {
         match event {
             Event::Open { room, access } => match self.open(alloc, room.as_str(), *access) {

@@ -1,13 +1,15 @@
 -- While output is pending, a link only sends. Otherwise it sends what waits, exchanges, and sends
 -- what came of it.
-use Rattle.std.proofs.Common.{refl}
+use Rattle.std.proofs.Common.{◌≡◌, false, refl}
 use Rattle.relay_link.proofs.Hearing.{sends_none}
 use Rattle.relay_link.proofs.Telling.{frames_none, talked_none, talked}
 use Rattle.relay_link.proofs.opened.serve.Goals as goal
 
 pub returns-then-not-branch-clause-talks : goal.returns-then-not-branch-clause-talks
 returns-then-not-branch-clause-talks g c =
+    let unsent : c.in_ok-flush.field-0 ≡ false = cc in
     talked_none g.S.Read.remaining g.S.Write.contents _ _ _ _ c.flush.ensures.frames
+    (c.in_ok-flush.ensures.waits unsent)
 
 pub returns-then-not-branch-clause-passes : goal.returns-then-not-branch-clause-passes
 returns-then-not-branch-clause-passes g c = sends_none g.S.Read.remaining _ _ _ _ refl

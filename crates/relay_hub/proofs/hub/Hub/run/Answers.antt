@@ -2,7 +2,7 @@ use Rattle.std.proofs.Common.{length, refl, arith, length-append, ◌∷◌, []}
 use Rattle.std.proofs.lemmas.Option.{slice_get_read}
 use Rattle.relay_hub.specs.Call.{Runs, stops}
 use Rattle.relay_hub.proofs.Promises.{stands_after, exact_after, each_after}
-use Rattle.relay_hub.proofs.Runs.{run_more}
+use Rattle.relay_hub.proofs.Runs.{run_more, lacks_memory}
 use Rattle.relay_hub.proofs.hub.Hub.run.Goals as goal
 
 pub loop-event-preserved : goal.loop-event-preserved
@@ -52,6 +52,17 @@ returns-in_default-clause-each c = each_after (none c)
 done : (c : goal.In-Err)
     → Runs c.args.self.now c.args.events.now c.loop-event.answers.items c.carry_out.new.self
 done c = rw c.in-Err.ensures.err c.loop-event.invariant.runs
+
+pub returns-in-Err-clause-no_memory : goal.returns-in-Err-clause-no_memory
+returns-in-Err-clause-no_memory c =
+    let l = c.loop-event in
+    let at =
+    slice_get_read c.args.events.now (length c.args.events.now) (length l.answers.items)
+    c.event-item.result refl (omega (arith, l.invariant.count, c.loop-event-test.true))
+    (rw l.invariant.count c.event-item.is) in
+    rw c.in-Err.ensures.err
+    (lacks_memory c.args.events.now l.answers.items c.event-item.result l.self at
+    c.in-Err.ensures.no_memory)
 
 pub returns-in-Err-clause-stands : goal.returns-in-Err-clause-stands
 returns-in-Err-clause-stands c = stands_after (done c)
