@@ -98,8 +98,8 @@ module _ {S : Type 0} where
   Hears remaining zero old new texts = FindsNothing old new texts
   Hears remaining (suc n) old new texts = HearsOnce remaining old new texts
 
-  -- The same of a link that stays open. It reads whenever it may: only a stream that takes no output
-  -- keeps it from that.
+  -- The same of a link that stays open. It reads whenever it may: only a stream that takes no
+  -- output keeps it from that.
   abbrev pub HearsUnlessBlocked : (S → Option (List ℕ)) → ℕ → Socket (CorkedWriter S)
       → Socket (CorkedWriter S) → List (List ℕ) → Type 0
   HearsUnlessBlocked remaining zero old new texts = FindsNothing old new texts
