@@ -9,6 +9,13 @@ use tungstenite::Error as SocketError;
 use websocket::error::Error as FrameError;
 
 /// The reason why a client stops receiving.
+///
+/// ```
+/// // The masked text of RFC 6455, section 5.7, which only a client sends.
+/// let mut frames = *b"\x81\x85\x37\xfa\x21\x3d\x7f\x9f\x4d\x51\x58";
+/// let ended = receive(alloc, &mut frames, &mut Follower::new());
+/// assert!(rt; ended == Err(ReceiveFault::NotFrames));
+/// ```
 #[derive(Clone, Copy, Debug, PartialEq, Eq, Error)]
 pub enum ReceiveFault {
     /// The bytes are not frames of a server (RFC 6455, section 5.2), or end within one.
@@ -54,6 +61,14 @@ impl ReceiveFault {
 }
 
 /// The reason why the next text of a socket is not heard.
+///
+/// ```
+/// // The text of RFC 6455, section 5.7, is no message.
+/// let stream = Duplex { reader: b"\x81\x05Hello".as_slice(), writer: Vec::new(alloc) };
+/// let mut socket = client_on(alloc, stream, NoMask);
+/// let heard = hear_next(alloc, &mut socket, &mut Follower::new());
+/// assert!(rt; matches!(heard, Err(SocketFault::Refused(HearFault::NotMessage))));
+/// ```
 #[derive(Debug, Drop, Error)]
 pub enum SocketFault {
     /// The socket failed: its stream, the protocol, or memory.

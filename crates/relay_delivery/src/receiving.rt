@@ -33,6 +33,13 @@ const NO_LIMITS: WebSocketConfig = WebSocketConfig {
 /// drawn before make of its start, it then holds what those drawn in the turn make of that; and if
 /// nothing more waits for its session, exactly its view of the present document. Then only memory
 /// can be missing. A session that resumes in the turn has to hold what it resumes from.
+///
+/// ```
+/// let mut frames = *b"\x81\x25{\"kind\":\"snapshot\",\"rev\":1,\"view\":[]}";
+/// let mut follower = Follower::new();
+/// receive(alloc, &mut frames, &mut follower).ok()?;
+/// assert!(rt; follower.rev() == Some(1));
+/// ```
 pub fn receive(
     alloc: Global,
     frames: &mut [u8],

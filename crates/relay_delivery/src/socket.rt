@@ -19,6 +19,15 @@ use std::io::{Read, Write};
 use tungstenite::{MaskKeys, Message, Role, WebSocket, WebSocketConfig};
 
 /// A client's socket on a stream whose handshake is done. It puts no limit on a message.
+///
+/// ```
+/// let frames = b"\x81\x25{\"kind\":\"snapshot\",\"rev\":1,\"view\":[]}".as_slice();
+/// let stream = Duplex { reader: frames, writer: Vec::new(alloc) };
+/// let mut socket = client_on(alloc, stream, NoMask);
+/// let mut follower = Follower::new();
+/// hear_next(alloc, &mut socket, &mut follower).ok()?;
+/// assert!(rt; follower.rev() == Some(1));
+/// ```
 pub fn client_on<S: Read + Write + Drop, K: MaskKeys + Drop>(
     alloc: Global,
     stream: S,
@@ -36,6 +45,16 @@ pub fn client_on<S: Read + Write + Drop, K: MaskKeys + Drop>(
 /// Reads the next message off a client's socket, and passes its text to the follower. If the bytes
 /// that are still to be read begin with the frame of a text, it is that text, and the rest of the
 /// bytes is still to be read. An error leaves the follower unchanged.
+///
+/// ```
+/// let frames = b"\x81\x1a{\"id\":1,\"kind\":\"watching\"}".as_slice();
+/// let stream = Duplex { reader: frames, writer: Vec::new(alloc) };
+/// let mut socket = client_on(alloc, stream, NoMask);
+/// let mut follower = Follower::new();
+/// // A reply changes nothing.
+/// hear_next(alloc, &mut socket, &mut follower).ok()?;
+/// assert!(rt; follower.view().is_none());
+/// ```
 pub fn hear_next<S: Read + Write + Drop, K: MaskKeys + Drop>(
     alloc: Global,
     socket: &mut WebSocket<S, K>,
@@ -67,6 +86,17 @@ pub fn hear_next<S: Read + Write + Drop, K: MaskKeys + Drop>(
 /// to the follower. If the bytes that are still to be read begin with what the turn framed, the
 /// follower then holds what [`receive`](crate::receive) would leave it with. An error leaves it
 /// with what the texts before make of what it held.
+///
+/// ```
+/// // Two frames of a text each: a reply, and a snapshot.
+/// let reply = b"\x81\x1a{\"id\":1,\"kind\":\"watching\"}".as_slice();
+/// let snapshot = b"\x81\x25{\"kind\":\"snapshot\",\"rev\":1,\"view\":[]}".as_slice();
+/// let frames = [reply, snapshot].concat(alloc).ok()?;
+/// let stream = Duplex { reader: frames.as_slice(), writer: Vec::new(alloc) };
+/// let mut follower = Follower::new();
+/// hear_texts(alloc, &mut client_on(alloc, stream, NoMask), 2, &mut follower).ok()?;
+/// assert!(rt; follower.rev() == Some(1));
+/// ```
 pub fn hear_texts<S: Read + Write + Drop, K: MaskKeys + Drop>(
     alloc: Global,
     socket: &mut WebSocket<S, K>,

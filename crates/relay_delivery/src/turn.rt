@@ -14,6 +14,18 @@ use std::io::{Read, Write};
 /// Runs [`Link::write_turn`]. If the link was open and still is, and the bytes that it framed
 /// before and since are known, what it framed in the turn are the frames that
 /// [`receive`](crate::receive) reads.
+///
+/// ```
+/// let wire = Wire::new(alloc);
+/// let mut hub = Hub::new(alloc, 1, 1, 64, 32).ok()?;
+/// let mut link = Link::new(alloc, End { wire: &wire }).ok()?;
+/// wire.try_borrow_mut().ok()?.perform(alloc, "asks 13 /rooms/a").ok()?;
+/// link.read_turn(alloc, &Entrance::Open, &mut hub, MAX_DRAWS).ok()?;
+/// let turn = write_turn(alloc, &mut link, &mut hub, MAX_DRAWS).ok()?;
+/// // The welcome.
+/// assert!(rt; turn.has_drawn());
+/// assert!(rt; wire.try_borrow_mut().ok()?.output.as_slice().ends_with(b"\"session\":1}"));
+/// ```
 pub fn write_turn<S: Read + Write + Drop>(
     alloc: Global,
     link: &mut Link<S>,

@@ -5,6 +5,15 @@ use crate::ready_queue::ReadyQueue;
 use std::alloc::{AllocError, Global};
 
 /// The output of a link.
+///
+/// ```
+/// let mut queues = Queues::new(alloc);
+/// queues.admit(1).ok()?;
+/// let wants = Wants { read: false, corked: true, waiting: false, closing: false };
+/// queues.push(1, wants, Credit { spent: 0, round: 0 });
+/// assert!(rt; queues.pop_writer(Output::Waiting) == None);
+/// assert!(rt; queues.pop_writer(Output::Corked) == Some(1));
+/// ```
 #[derive(Clone, Copy, Debug, PartialEq, Eq)]
 pub enum Output {
     /// What was framed in a read turn, and corked.
@@ -14,6 +23,15 @@ pub enum Output {
 }
 
 /// The turns that would do something for a connection.
+///
+/// ```
+/// let mut queues = Queues::new(alloc);
+/// queues.admit(1).ok()?;
+/// let wants = Wants { read: true, corked: false, waiting: true, closing: false };
+/// queues.push(1, wants, Credit { spent: 0, round: 0 });
+/// assert!(rt; queues.ready.pop_credited() == Some(1));
+/// assert!(rt; queues.pop_writer(Output::Waiting) == Some(1));
+/// ```
 #[derive(Clone, Copy, Debug, PartialEq, Eq)]
 pub struct Wants {
     /// A read turn.
@@ -29,6 +47,15 @@ pub struct Wants {
 /// Five queues of connection keys: `ready` to read; `corked`, to write what a read turn framed;
 /// `waiting`, to write anything; `held_back`; `closing`. A key stays queued if its connection is
 /// dropped or no longer wants the turn, so a caller that pops a key checks the connection.
+///
+/// ```
+/// let mut queues = Queues::new(alloc);
+/// queues.admit(2).ok()?;
+/// queues.push_writer(2);
+/// queues.push_writer(1);
+/// assert!(rt; queues.pop_writer(Output::Waiting) == Some(2));
+/// assert!(rt; queues.pop_writer(Output::Waiting) == Some(1) && queues.is_empty());
+/// ```
 #[derive(Drop)]
 pub struct Queues {
     pub ready: ReadyQueue,
@@ -44,6 +71,10 @@ impl Queues {
     ghost use Rattle.relay_schedule.specs.Queues.{AllAdmit, EachMayAdmit, no_queues, all_admitting, queued_for, with_writer, writers, without_writer, held_back, closing, with_held_back, without_held_back, without_closing, some_waits, waits_for};
 
     /// Queues without keys, which admit none.
+    ///
+    /// ```
+    /// assert!(rt; Queues::new(alloc).is_empty());
+    /// ```
     pub fn new(alloc: Global) -> Queues
         ensures { result ≡ no_queues }
     {
@@ -58,6 +89,16 @@ impl Queues {
 
     /// Takes the memory for a key in each queue, and for those below it. A key that is admitted
     /// needs none. `AllocError` leaves the keys that are queued.
+    ///
+    /// ```
+    /// let mut queues = Queues::new(alloc);
+    /// // Key 0 is not admitted yet, so it is ignored.
+    /// queues.push_writer(0);
+    /// assert!(rt; queues.writers(Output::Waiting) == 0);
+    /// queues.admit(0).ok()?;
+    /// queues.push_writer(0);
+    /// assert!(rt; queues.writers(Output::Waiting) == 1);
+    /// ```
     pub fn admit(&mut self, key: usize) -> Result<(), AllocError>
         ensures ok { OnOk result (self.new ≡ all_admitting key self.old) }
         ensures err { OnErr result (EachMayAdmit key self.old self.new) }
@@ -72,6 +113,15 @@ impl Queues {
 
     /// Queues a key behind the others for each turn that its connection wants. Whoever owes is
     /// written to among all others, also for corked output. Allocates nothing.
+    ///
+    /// ```
+    /// let mut queues = Queues::new(alloc);
+    /// queues.admit(1).ok()?;
+    /// let wants = Wants { read: true, corked: false, waiting: false, closing: false };
+    /// // A new connection owes.
+    /// queues.push(1, wants, Credit::of_new(0));
+    /// assert!(rt; queues.ready.pop_credited() == None && queues.ready.pop_owing() == Some(1));
+    /// ```
     pub fn push(&mut self, key: usize, wants: Wants, credit: Credit)
         ensures { self.new ≡ queued_for key wants credit self.old }
     {
@@ -90,6 +140,14 @@ impl Queues {
     }
 
     /// Queues a key for a write turn, for messages that wait. Allocates nothing.
+    ///
+    /// ```
+    /// let mut queues = Queues::new(alloc);
+    /// queues.admit(1).ok()?;
+    /// queues.push_writer(1);
+    /// queues.push_writer(1);
+    /// assert!(rt; queues.writers(Output::Waiting) == 1 && queues.writers(Output::Corked) == 0);
+    /// ```
     pub fn push_writer(&mut self, key: usize)
         ensures { self.new ≡ with_writer key self.old }
     {
@@ -97,6 +155,14 @@ impl Queues {
     }
 
     /// Takes out the first key of the connections that may be written to, for such output.
+    ///
+    /// ```
+    /// let mut queues = Queues::new(alloc);
+    /// queues.admit(1).ok()?;
+    /// queues.push_writer(1);
+    /// assert!(rt; queues.pop_writer(Output::Corked) == None);
+    /// assert!(rt; queues.pop_writer(Output::Waiting) == Some(1));
+    /// ```
     pub fn pop_writer(&mut self, output: Output) -> Option<usize>
         ensures first { result ≡ first (writers output self.old) }
         ensures rest { self.new ≡ without_writer output self.old }
@@ -108,6 +174,13 @@ impl Queues {
     }
 
     /// Puts a key aside whose messages have to wait. Allocates nothing.
+    ///
+    /// ```
+    /// let mut queues = Queues::new(alloc);
+    /// queues.admit(1).ok()?;
+    /// queues.hold_back(1);
+    /// assert!(rt; queues.held_back() == 1 && queues.is_empty());
+    /// ```
     pub fn hold_back(&mut self, key: usize)
         ensures { self.new ≡ with_held_back key self.old }
     {
@@ -115,6 +188,13 @@ impl Queues {
     }
 
     /// Takes out the first key that was put aside.
+    ///
+    /// ```
+    /// let mut queues = Queues::new(alloc);
+    /// queues.admit(1).ok()?;
+    /// queues.hold_back(1);
+    /// assert!(rt; queues.pop_held_back() == Some(1) && queues.pop_held_back() == None);
+    /// ```
     pub fn pop_held_back(&mut self) -> Option<usize>
         ensures first { result ≡ first (held_back self.old) }
         ensures rest { self.new ≡ without_held_back self.old }
@@ -123,6 +203,14 @@ impl Queues {
     }
 
     /// How many keys were put aside.
+    ///
+    /// ```
+    /// let mut queues = Queues::new(alloc);
+    /// queues.admit(1).ok()?;
+    /// queues.hold_back(0);
+    /// queues.hold_back(1);
+    /// assert!(rt; queues.held_back() == 2);
+    /// ```
     pub fn held_back(&self) -> usize
         ensures { result ≡ length (held_back self.now).keys }
     {
@@ -130,6 +218,14 @@ impl Queues {
     }
 
     /// Takes out the first key of the connections that are closing.
+    ///
+    /// ```
+    /// let mut queues = Queues::new(alloc);
+    /// queues.admit(1).ok()?;
+    /// let wants = Wants { read: false, corked: false, waiting: false, closing: true };
+    /// queues.push(1, wants, Credit { spent: 0, round: 0 });
+    /// assert!(rt; queues.pop_closing() == Some(1) && queues.pop_closing() == None);
+    /// ```
     pub fn pop_closing(&mut self) -> Option<usize>
         ensures first { result ≡ first (closing self.old) }
         ensures rest { self.new ≡ without_closing self.old }
@@ -138,6 +234,14 @@ impl Queues {
     }
 
     /// How many keys there are of connections that are closing.
+    ///
+    /// ```
+    /// let mut queues = Queues::new(alloc);
+    /// queues.admit(1).ok()?;
+    /// let wants = Wants { read: false, corked: false, waiting: false, closing: true };
+    /// queues.push(1, wants, Credit { spent: 0, round: 0 });
+    /// assert!(rt; queues.closing() == 1 && queues.is_empty());
+    /// ```
     pub fn closing(&self) -> usize
         ensures { result ≡ length (closing self.now).keys }
     {
@@ -145,6 +249,14 @@ impl Queues {
     }
 
     /// How many keys wait for a write turn.
+    ///
+    /// ```
+    /// let mut queues = Queues::new(alloc);
+    /// queues.admit(1).ok()?;
+    /// queues.push_writer(0);
+    /// queues.push_writer(1);
+    /// assert!(rt; queues.writers(Output::Waiting) == 2);
+    /// ```
     pub fn writers(&self, output: Output) -> usize
         ensures { result ≡ length (writers output self.now).keys }
     {
@@ -156,6 +268,15 @@ impl Queues {
 
     /// Whether a key waits for a turn that can be given now, so that it is neither held back nor
     /// closing.
+    ///
+    /// ```
+    /// let mut queues = Queues::new(alloc);
+    /// queues.admit(1).ok()?;
+    /// queues.push_writer(1);
+    /// assert!(rt; queues.has_work());
+    /// queues.pop_writer(Output::Waiting)?;
+    /// assert!(rt; !queues.has_work());
+    /// ```
     pub fn has_work(&self) -> bool
         ensures { result ≡ some_waits self.now }
     {
@@ -163,6 +284,15 @@ impl Queues {
     }
 
     /// Whether a key waits for each turn that its connection wants.
+    ///
+    /// ```
+    /// let mut queues = Queues::new(alloc);
+    /// queues.admit(1).ok()?;
+    /// let wants = Wants { read: false, corked: false, waiting: true, closing: false };
+    /// assert!(rt; !queues.has(1, wants));
+    /// queues.push_writer(1);
+    /// assert!(rt; queues.has(1, wants));
+    /// ```
     pub fn has(&self, key: usize, wants: Wants) -> bool
         ensures { result ≡ waits_for key wants self.now }
     {

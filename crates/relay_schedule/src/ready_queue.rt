@@ -8,6 +8,15 @@ use std::marker::Model;
 /// key of `owing` at least, and more while it has cost less than its bound. No key is in both. A
 /// round of credit ends once each key that owed when it began was served. Contracts see it as
 /// `Lines`.
+///
+/// ```
+/// let mut ready = ReadyQueue::new(alloc);
+/// ready.admit(2).ok()?;
+/// ready.push(1, Credit { spent: ROUND_CREDIT, round: ready.round() });
+/// ready.push(2, Credit { spent: 0, round: ready.round() });
+/// // The first one has spent its credit.
+/// assert!(rt; ready.owing() == 1 && ready.credited() == 1);
+/// ```
 #[derive(Drop)]
 pub struct ReadyQueue {
     credited: KeyQueue,
@@ -37,6 +46,10 @@ impl ReadyQueue {
     ghost use Rattle.relay_schedule.specs.Ready.{AreLines, BothAdmit, LinesMayAdmit, no_lines, are_empty, stands, both_admitting, lined_up, without_credited, in_round, without_owing, unserved};
 
     /// A queue without keys, which admits none.
+    ///
+    /// ```
+    /// assert!(rt; ReadyQueue::new(alloc).is_empty());
+    /// ```
     pub fn new(alloc: Global) -> ReadyQueue
         ensures { result ≡ no_lines }
     {
@@ -50,6 +63,13 @@ impl ReadyQueue {
 
     /// Takes the memory for a key, and for those below it. A key that is admitted needs none.
     /// `AllocError` leaves the keys that are queued.
+    ///
+    /// ```
+    /// let mut ready = ReadyQueue::new(alloc);
+    /// ready.admit(3).ok()?;
+    /// ready.push(2, Credit::of_new(ready.round()));
+    /// assert!(rt; ready.contains(2));
+    /// ```
     pub fn admit(&mut self, key: usize) -> Result<(), AllocError>
         ensures ok { OnOk result (self.new ≡ both_admitting key self.old) }
         ensures err { OnErr result (LinesMayAdmit key self.old self.new) }
@@ -60,6 +80,13 @@ impl ReadyQueue {
     }
 
     /// The round of credit.
+    ///
+    /// ```
+    /// let mut ready = ReadyQueue::new(alloc);
+    /// let before = ready.round();
+    /// // Nobody owes, so the round ends.
+    /// assert!(rt; ready.pop_owing() == None && ready.round() == before + 1);
+    /// ```
     pub fn round(&self) -> u64
         ensures { result ≡ self.now.round }
     {
@@ -92,6 +119,14 @@ impl ReadyQueue {
     }
 
     /// Takes the first key out of those with credit. Allocates nothing.
+    ///
+    /// ```
+    /// let mut ready = ReadyQueue::new(alloc);
+    /// ready.admit(0).ok()?;
+    /// ready.push(0, Credit::of_new(ready.round()));
+    /// // It owes.
+    /// assert!(rt; ready.pop_credited() == None);
+    /// ```
     pub fn pop_credited(&mut self) -> Option<usize>
         ensures first { result ≡ first self.old.credited }
         ensures rest { self.new ≡ without_credited self.old }
@@ -101,6 +136,15 @@ impl ReadyQueue {
 
     /// Takes the first key out of those who owe. If each of them has had a turn, the next round of
     /// credit begins; so it does if there is none. Allocates nothing.
+    ///
+    /// ```
+    /// let mut ready = ReadyQueue::new(alloc);
+    /// ready.admit(1).ok()?;
+    /// ready.push(1, Credit::of_new(ready.round()));
+    /// ready.push(0, Credit::of_new(ready.round()));
+    /// assert!(rt; ready.pop_owing() == Some(1) && ready.pop_owing() == Some(0));
+    /// assert!(rt; ready.pop_owing() == None);
+    /// ```
     pub fn pop_owing(&mut self) -> Option<usize>
         ensures first { result ≡ first self.old.owing }
         ensures rest { self.new ≡ without_owing self.old }
@@ -124,6 +168,13 @@ impl ReadyQueue {
     }
 
     /// How many have credit.
+    ///
+    /// ```
+    /// let mut ready = ReadyQueue::new(alloc);
+    /// ready.admit(0).ok()?;
+    /// ready.push(0, Credit { spent: 0, round: ready.round() });
+    /// assert!(rt; ready.credited() == 1 && ready.owing() == 0);
+    /// ```
     pub fn credited(&self) -> usize
         ensures kept { AreLines self.now }
         ensures count { result ≡ length self.now.credited.keys }
@@ -132,6 +183,13 @@ impl ReadyQueue {
     }
 
     /// How many owe.
+    ///
+    /// ```
+    /// let mut ready = ReadyQueue::new(alloc);
+    /// ready.admit(0).ok()?;
+    /// ready.push(0, Credit::of_new(ready.round()));
+    /// assert!(rt; ready.owing() == 1 && ready.credited() == 0);
+    /// ```
     pub fn owing(&self) -> usize
         ensures kept { AreLines self.now }
         ensures count { result ≡ length self.now.owing.keys }
@@ -146,6 +204,13 @@ impl ReadyQueue {
     }
 
     /// Whether a key stands in one of the lines.
+    ///
+    /// ```
+    /// let mut ready = ReadyQueue::new(alloc);
+    /// ready.admit(1).ok()?;
+    /// ready.push(1, Credit::of_new(ready.round()));
+    /// assert!(rt; ready.contains(1) && !ready.contains(0));
+    /// ```
     pub fn contains(&self, key: usize) -> bool
         ensures { result ≡ stands key self.now }
     {

@@ -21,6 +21,14 @@ use std::io::{Read, Write};
 /// nothing was read or written. The lines before any other fault were carried out and their answers
 /// written: at `TooManyLines` the first 65,536, and at `LineTooLong` those before the first line
 /// that is too long. After `Output` the last answer may be cut.
+///
+/// ```
+/// let mut input = "ann open board\nann draw\n".as_bytes();
+/// let mut output = Vec::new(alloc);
+/// run_script(alloc, &mut input, &mut output, HubConfig::new(1, 1, 64, 32)).ok()?;
+/// let wanted = "ann opened 1\nann {\"epoch\":1,\"kind\":\"welcome\",\"rev\":0,\"session\":1}\n";
+/// assert!(rt; output.as_slice() == wanted.as_bytes());
+/// ```
 pub fn run_script<R: Read, W: Write>(
     alloc: Global,
     reader: &mut R,
@@ -47,6 +55,13 @@ pub fn run_script<R: Read, W: Write>(
 
 /// Applies the texts of an input, one per line, to a follower, and writes what it holds after each.
 /// Limits and faults are those of [`run_script`], but `BadLimit` never comes.
+///
+/// ```
+/// let mut input = "{\"kind\":\"snapshot\",\"rev\":1,\"view\":[[7]]}\n# no message\n".as_bytes();
+/// let mut output = Vec::new(alloc);
+/// run_follow(alloc, &mut input, &mut output).ok()?;
+/// assert!(rt; output.as_slice() == "held 1 [[7]]\noff not-message\n".as_bytes());
+/// ```
 pub fn run_follow<R: Read, W: Write>(
     alloc: Global,
     reader: &mut R,

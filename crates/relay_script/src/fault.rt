@@ -5,6 +5,14 @@ use thiserror::Error;
 
 /// Why a script ended early. The lines before the fault were carried out and their answers written;
 /// after `Output` the last answer may be cut.
+///
+/// ```
+/// let mut input = "ann open board\n".as_bytes();
+/// let mut output = Vec::new(alloc);
+/// // A room keeps the changes of one revision at least.
+/// let ended = run_script(alloc, &mut input, &mut output, HubConfig::new(1, 1, 0, 32));
+/// assert!(rt; ended == Err(ScriptFault::BadLimit) && output.is_empty());
+/// ```
 #[derive(Clone, Copy, Debug, PartialEq, Eq, Error)]
 pub enum ScriptFault {
     /// The epoch is not a count, or a limit is out of range. Nothing was read or written.

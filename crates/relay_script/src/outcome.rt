@@ -7,6 +7,15 @@ use relay_hub::Answer;
 use std::alloc::AllocError;
 
 /// The outcome of an event of a script.
+///
+/// ```
+/// let mut hub = Hub::new(alloc, 1, 1, 64, 32).ok()?;
+/// let outcome = hub.open_session(alloc, "two words", Access::ReadWrite).ok()?;
+/// let Outcome::Answered(answer) = outcome else {
+///     return None;
+/// };
+/// assert!(rt; matches!(answer, Answer::NotOpened(OpenFault::RoomName)));
+/// ```
 #[derive(Drop)]
 pub enum Outcome {
     /// The hub's answer.
@@ -21,6 +30,10 @@ pub enum Outcome {
 
 impl Outcome {
     /// The outcome of a call that does a will ([`relay_hub::Hub::do_will`]).
+    ///
+    /// ```
+    /// assert!(rt; matches!(Outcome::of_will(Ok(None)), Outcome::Answered(Answer::NoWill)));
+    /// ```
     pub fn of_will(done: Result<Option<u64>, AllocError>) -> Outcome
         ensures { result ≡ outcome_of (doing_will done) }
     {
@@ -32,6 +45,11 @@ impl Outcome {
     }
 
     /// The session that a name has after the event, given its session before.
+    ///
+    /// ```
+    /// assert!(rt; Outcome::Answered(Answer::Closed).session_after(Some(1)) == None);
+    /// assert!(rt; Outcome::NoMemory.session_after(Some(1)) == Some(1));
+    /// ```
     pub fn session_after(&self, was: Option<u64>) -> Option<u64>
         ensures { result ≡ session_after self.now was }
     {

@@ -32,6 +32,12 @@ pub fn write_some<W: Write>(writer: &mut W, bytes: &[u8]) -> Result<usize, Scrip
 }
 
 /// Writes all the bytes. After an error a prefix of them was written.
+///
+/// ```
+/// let mut output = Vec::new(alloc);
+/// write_whole(&mut output, "ann opened 1\n".as_bytes()).ok()?;
+/// assert!(rt; output.as_slice() == "ann opened 1\n".as_bytes());
+/// ```
 pub fn write_whole<W: Write>(writer: &mut W, bytes: &[u8]) -> Result<(), ScriptFault>
     ensures ok { OnOk result (Appends (W.contents writer.old) (W.contents writer.new) bytes.now) }
     ensures err { OnErr result (AppendsPart (W.contents writer.old) (W.contents writer.new)

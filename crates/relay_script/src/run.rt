@@ -20,6 +20,15 @@ pub const MAX_LINES: u32 = 65_536;
 /// answers written: at `TooManyLines` the first 65,536, whatever the next one is, and at
 /// `LineTooLong` those before the first line that is too long. After `Output` the last answer may
 /// be cut.
+///
+/// ```
+/// let mut script = Script::new(alloc, Hub::new(alloc, 1, FIRST_SESSION, 64, 32).ok()?);
+/// let mut input = "\nann open board\nann jump\n".as_bytes();
+/// let mut output = Vec::new(alloc);
+/// run_lines(alloc, &mut script, &mut input, &mut output).ok()?;
+/// // The third line has no known form.
+/// assert!(rt; output.as_slice() == "ann opened 1\n? 3\n".as_bytes());
+/// ```
 pub fn run_lines<S: Respond, R: Read, W: Write>(
     alloc: Global,
     state: &mut S,

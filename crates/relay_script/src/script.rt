@@ -17,6 +17,14 @@ use std::alloc::{AllocError, Global};
 pub const FIRST_SESSION: u64 = 1;
 
 /// A transport, and the client of each name of the script.
+///
+/// ```
+/// let mut script = Script::new(alloc, Hub::new(alloc, 1, FIRST_SESSION, 64, 32).ok()?);
+/// let opened = script.respond(alloc, 1, "ann open board".as_bytes()).ok()?;
+/// assert!(rt; opened.as_str() == "ann opened 1\n");
+/// let held = script.respond(alloc, 2, "ann held".as_bytes()).ok()?;
+/// assert!(rt; held.as_str() == "ann held nothing\n");
+/// ```
 #[derive(Drop)]
 pub struct Script<T: Transport + Drop> {
     transport: T,
@@ -25,6 +33,12 @@ pub struct Script<T: Transport + Drop> {
 
 impl<T: Transport + Drop> Script<T> {
     /// A script of which no name was opened yet. Allocates nothing.
+    ///
+    /// ```
+    /// let mut script = Script::new(alloc, Hub::new(alloc, 1, FIRST_SESSION, 64, 32).ok()?);
+    /// let answer = script.respond(alloc, 1, "ann draw".as_bytes()).ok()?;
+    /// assert!(rt; answer.as_str() == "ann unknown\n");
+    /// ```
     pub fn new(alloc: Global, transport: T) -> Script<T>
         ensures { stage_of result ≡ stage transport [] }
     {

@@ -14,6 +14,14 @@ use std::alloc::{AllocError, Global};
 
 /// Carries a script's events to a hub. An `AllocError` ends the script; a hub call that is out of
 /// memory is an outcome.
+///
+/// ```
+/// let mut hub = Hub::new(alloc, 1, 1, 64, 32).ok()?;
+/// let opened = hub.open_session(alloc, "board", Access::ReadWrite).ok()?;
+/// assert!(rt; matches!(opened, Outcome::Answered(Answer::Opened(_))));
+/// let closed = hub.close_session(alloc, 1).ok()?;
+/// assert!(rt; matches!(closed, Outcome::Answered(Answer::Closed)));
+/// ```
 pub trait Transport {
     // The state before an event, the event, its outcome, and the state after it.
     ghost comes: { Self → Event → Outcome → Self → Type 0 };

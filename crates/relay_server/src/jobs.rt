@@ -24,6 +24,14 @@ use std::time::Clock;
 /// help was asked for, 1 for a fault of input, output, a line, a port or sockets, 2 for a fault of
 /// the arguments, 3 if out of memory. Requested help goes to the writer. If the arguments ask for
 /// no job, nothing is read.
+///
+/// ```
+/// let words = [String::from_str(alloc, "relay").ok()?, String::from_str(alloc, "follow").ok()?];
+/// let mut input = "{\"kind\":\"snapshot\",\"rev\":1,\"view\":[[7]]}\n".as_bytes();
+/// let (mut output, mut errors) = (Vec::new(alloc), Vec::new(alloc));
+/// let status = start(rt, &words, &mut input, &mut output, &mut errors);
+/// assert!(rt; status == 0 && output.as_slice() == "held 1 [[7]]\n".as_bytes());
+/// ```
 pub fn start<H: AllocGlobal + Clock + Net, R: Read, W: Write, E: Write>(
     rt: &H,
     words: &[String],
@@ -48,6 +56,12 @@ fn seconds_since_1970<C: Clock>(clock: &C) -> Option<u64> {
 
 /// Reports on `errors` why the arguments could not be read. Returns the exit status: 2 if one of
 /// them is not UTF-8, 3 if out of memory, otherwise 1.
+///
+/// ```
+/// let mut errors = Vec::new(alloc);
+/// assert!(rt; refuse_words(ErrorKind::InvalidData, &mut errors) == 2 && !errors.is_empty());
+/// assert!(rt; refuse_words(ErrorKind::OutOfMemory, &mut errors) == 3);
+/// ```
 pub fn refuse_words<E: Write>(why: ErrorKind, errors: &mut E) -> u8
     ensures { result ≡ code_of (unread_status why) }
 {
@@ -66,6 +80,14 @@ pub fn refuse_words<E: Write>(why: ErrorKind, errors: &mut E) -> u8
 }
 
 /// Runs a job over a reader and a writer, with sockets from `net`, and reports faults on `errors`.
+///
+/// ```
+/// let mut input = "{\"kind\":\"snapshot\",\"rev\":1,\"view\":[[7]]}\n".as_bytes();
+/// let (mut output, mut errors) = (Vec::new(alloc), Vec::new(alloc));
+/// let ended = carry_out(alloc, rt, Job::Follow, &mut input, &mut output, &mut errors);
+/// assert!(rt; ended == Status::Done && errors.is_empty());
+/// assert!(rt; output.as_slice() == "held 1 [[7]]\n".as_bytes());
+/// ```
 pub fn carry_out<N: Clock + Net, R: Read, W: Write, E: Write>(
     alloc: Global,
     net: &N,

@@ -9,6 +9,13 @@ use std::time::{Clock, Duration};
 
 /// A log that writes one line for each entry, with the time and the level, each by one write. A
 /// line that the writer does not take is dropped. The next line that it takes says how many were.
+///
+/// ```
+/// let mut written = Vec::new(alloc);
+/// LogLines::to(alloc, &mut written, rt).record(LogEntry::OutOfMemory);
+/// assert!(rt; written.as_slice().starts_with(b"time="));
+/// assert!(rt; written.as_slice().ends_with(b" level=warn event=out-of-memory\n"));
+/// ```
 #[derive(Drop)]
 pub struct LogLines<'a, W, C> {
     writer: &'a mut W,

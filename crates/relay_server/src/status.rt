@@ -6,6 +6,12 @@ use relay_script::ScriptFault;
 use std::io::Write;
 
 /// The exit statuses of the program.
+///
+/// ```
+/// let mut errors = Vec::new(alloc);
+/// assert!(rt; report(Ok(()), &mut errors) == Status::Done);
+/// assert!(rt; report(Err(ScriptFault::BadLimit), &mut errors) == Status::Misused);
+/// ```
 #[derive(Clone, Copy, Debug, PartialEq, Eq)]
 pub enum Status {
     /// 0: all was done.
@@ -20,6 +26,11 @@ pub enum Status {
 
 impl Status {
     /// The exit code of the process.
+    ///
+    /// ```
+    /// assert!(rt; Status::Done.code() == 0 && Status::Failed.code() == 1);
+    /// assert!(rt; Status::Misused.code() == 2 && Status::NoMemory.code() == 3);
+    /// ```
     pub fn code(self) -> u8
         ensures { result ≡ code_of self }
     {
@@ -33,6 +44,12 @@ impl Status {
 }
 
 /// Reports on `errors` why a script ended early, and returns its status.
+///
+/// ```
+/// let mut errors = Vec::new(alloc);
+/// assert!(rt; report(Err(ScriptFault::TooManyLines), &mut errors) == Status::Failed);
+/// assert!(rt; !errors.is_empty());
+/// ```
 pub fn report<E: Write>(ended: Result<(), ScriptFault>, errors: &mut E) -> Status
     ensures { result ≡ status_of ended }
 {

@@ -2,6 +2,15 @@
 use relay_access::Access;
 
 /// The answer to the bytes received so far.
+///
+/// ```
+/// let start = "GET /rooms/board HTTP/1.1\r\nHost: localhost\r\n";
+/// assert!(rt; matches!(shake(alloc, start.as_bytes()), Ok(Shake::More)));
+/// // The whole head asks for no WebSocket.
+/// let head = "GET /rooms/board HTTP/1.1\r\nHost: localhost\r\n\r\n";
+/// let refused = shake(alloc, head.as_bytes());
+/// assert!(rt; matches!(refused, Ok(Shake::Refuse { status: 400, .. })));
+/// ```
 #[derive(Debug, Drop)]
 pub enum Shake {
     /// The head is not complete: more bytes are needed.

@@ -46,6 +46,17 @@ pub(crate) const MAX_HEAD_FIELDS: usize = 2_730;
 /// Each call reads from the first byte and allocates about 90 KB for the header fields, which it
 /// frees before it returns. If memory runs out, it returns `AllocError` and leaves nothing behind.
 /// See `docs/PROTOCOL.md`, "The handshake".
+///
+/// ```
+/// // The key, and what it is accepted by, are those of RFC 6455, section 1.3.
+/// let fields = "Host: localhost\r\nUpgrade: websocket\r\nConnection: Upgrade\r\n";
+/// let key = "Sec-WebSocket-Version: 13\r\nSec-WebSocket-Key: dGhlIHNhbXBsZSBub25jZQ==\r\n";
+/// let head = format!(in alloc; "GET /rooms/board HTTP/1.1\r\n{fields}{key}\r\n").ok()?;
+/// let Shake::Accept { reply, .. } = shake(alloc, head.as_bytes()).ok()? else {
+///     return None;
+/// };
+/// assert!(rt; reply.as_slice().ends_with(b"Accept: s3pPLMBiTxaQ9kYGzzhZRbK+xOo=\r\n\r\n"));
+/// ```
 pub fn shake(alloc: Global, bytes: &[u8]) -> Result<Shake, AllocError>
     ensures head { IfOk result (AnswersHead bytes.now) }
     // Both cases of `AnswersNoHead` hold only if the bytes end in a target that no head can have.

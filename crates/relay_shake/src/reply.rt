@@ -39,6 +39,12 @@ fn accept_value(alloc: Global, key: &[u8]) -> Result<String, AllocError>
 /// The status is one of 400, 404, 405, 426 and 431, as in [`crate::Shake::Refuse`], or 503 if the
 /// relay has no place for another session. Returns `AllocError` if memory runs out. See
 /// `docs/PROTOCOL.md`, "The handshake".
+///
+/// ```
+/// let reply = refusal(alloc, 404).ok()?;
+/// let wanted = "HTTP/1.1 404 Not Found\r\nContent-Length: 0\r\nConnection: close\r\n\r\n";
+/// assert!(rt; reply.as_slice() == wanted.as_bytes());
+/// ```
 pub fn refusal(alloc: Global, status: u16) -> Result<Vec<u8>, AllocError>
     requires { IsTrue (is_refusal status) }
     ensures { IfOk result (λ reply. reply.items ≡ refusal_of status) }
@@ -53,6 +59,12 @@ pub fn refusal(alloc: Global, status: u16) -> Result<Vec<u8>, AllocError>
 /// Returns the reply to a good handshake while the relay lets no client in: 503, with the number of
 /// seconds after which the client may try again (RFC 9110, section 10.2.3). The socket is closed
 /// afterwards. Returns `AllocError` if memory runs out.
+///
+/// ```
+/// let reply = closed_refusal(alloc).ok()?;
+/// let wanted = b"HTTP/1.1 503 Service Unavailable\r\nRetry-After: 1\r\n";
+/// assert!(rt; reply.as_slice().starts_with(wanted));
+/// ```
 pub fn closed_refusal(alloc: Global) -> Result<Vec<u8>, AllocError>
     ensures { IfOk result (λ reply. reply.items ≡ closed_refusal) }
 {
