@@ -2,7 +2,7 @@
 //! (`docs/PROTOCOL.md`, "Requests" and "Messages").
 ghost use Rattle.std.specs.Prelude.{◌≡◌, ◌≢◌, ◌↔◌, ℕ, List, ◌++◌, ◌∷◌, [], codes, IfOk, OnOk, IfSome, IsSome, MatchOption, string_bytes};
 ghost use Rattle.json.specs.Lex.{tokens};
-ghost use Rattle.json.specs.Print.{ArePrintable};
+ghost use Rattle.json.specs.Print.{ArePrintable, print};
 ghost use Rattle.json.specs.Token.{key};
 ghost use Rattle.relay_admin.specs.Asking.{begun, based, watch_tokens, edit_tokens, IsJson, snapshot_text};
 
@@ -18,7 +18,8 @@ pub const NOT_JSON: &str = r#"{"at":null,"fault":"not-json","id":null,"kind":"re
 /// `{"do":"watch","id":1,"view":["POINTER"]}`. If memory runs out, it returns `AllocError` and
 /// leaves nothing behind.
 pub fn watch_text(alloc: Global, at: &str) -> Result<String, AllocError>
-    ensures { IfOk result (λ text. tokens (string_bytes text) ≡ watch_tokens at.now) }
+    ensures text { IfOk result (λ text. string_bytes text ≡ print (watch_tokens at.now)) }
+    ensures reads_back { IfOk result (λ text. tokens (string_bytes text) ≡ watch_tokens at.now) }
 {
     let mut out = begin_request(alloc, "watch")?;
     out.key("view")?;
@@ -41,6 +42,8 @@ pub fn edit_text(
     body: &[u8],
 ) -> Result<Option<String>, AllocError>
     ensures json { IfOk result (λ text. IsSome text ↔ IsJson body.now) }
+    ensures text { IfOk result (λ text. IfSome text
+        (λ t. string_bytes t ≡ print (edit_tokens base (tokens body.now)))) }
     ensures tokens { IfOk result (λ text. IfSome text
         (λ t. tokens (string_bytes t) ≡ edit_tokens base (tokens body.now))) }
 {
@@ -62,7 +65,9 @@ fn edit_by(
     scratch: &mut Scratch,
 ) -> Result<String, AllocError>
     requires { ArePrintable (tokens patch.now) }
-    ensures { IfOk result (λ text. tokens (string_bytes text)
+    ensures text { IfOk result (λ text. string_bytes text
+        ≡ print (edit_tokens base (tokens patch.now))) }
+    ensures tokens { IfOk result (λ text. tokens (string_bytes text)
         ≡ edit_tokens base (tokens patch.now)) }
 {
     let mut out = begin_edit(alloc, base)?;
@@ -123,7 +128,8 @@ fn write_rest(out: &mut Writer, reader: &mut Reader<'_>) -> Result<(), AllocErro
 
 fn text_of(out: Writer) -> String
     requires { out.before ≡ [] }
-    ensures { tokens (string_bytes result) ≡ out.tokens }
+    ensures text { string_bytes result ≡ print out.tokens }
+    ensures reads_back { tokens (string_bytes result) ≡ out.tokens }
 {
     let Ok(text) = String::from_utf8(out.into_inner()) else {
         unreachable!()

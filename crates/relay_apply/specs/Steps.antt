@@ -1,6 +1,6 @@
 -- Definitions by which the functions of this crate state what their steps do.
 use Rattle.std.specs.Prelude.{ℕ, List, [], ◌∷◌, ◌++◌, Bool, true, false, Option, Some, None, Result, Ok, Err, is_some, ◌≡◌, IsOk, ◌⊎◌, if◌then◌else◌, nat_le, nat_lt, ◌+◌, ◌==◌, ◌&&◌, ◌||◌, bytes_eq}
-use Rattle.relay_tree.specs.Document.{Document, list, object}
+use Rattle.relay_tree.specs.Document.{Document, list, object, weight}
 use Rattle.relay_tree.specs.Part.{items_length, member_at}
 use Rattle.relay_tree.specs.Budget.{paid}
 use Rattle.relay_tree.specs.declared.budget.Budget.{Budget}
@@ -13,6 +13,7 @@ use Rattle.relay_patch.specs.Place.{parent, last}
 use Rattle.relay_patch.specs.declared.change.Place.{Place}
 use Rattle.relay_patch.specs.Patch.{effect}
 use Rattle.relay_patch.specs.declared.op.Op.{Op}
+use Rattle.relay_patch.specs.declared.op.Op.TheVariants as op
 use Rattle.relay_patch.specs.Change.{changes_of}
 use Rattle.relay_patch.specs.declared.change.Change.{Change}
 use Rattle.relay_patch.specs.Weight.{changes_weight}
@@ -112,6 +113,13 @@ removal false path = change.DropMember path
 abbrev pub listed : Option Change → List Change
 listed None = []
 listed (Some c) = c ∷ []
+
+-- the weight of the value that an operation brings, of which its change has a copy; 0 if it brings
+-- none
+abbrev pub brought_weight : Op → ℕ
+brought_weight (op.Add path v) = weight v
+brought_weight (op.Replace path v) = weight v
+brought_weight _ = 0
 
 -- why an operation is refused if its change weighs more than what is left: it fails its own checks,
 -- or it is too heavy

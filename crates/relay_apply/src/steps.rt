@@ -1,6 +1,6 @@
 //! One operation of a patch: its checks, the change that it makes, and the bounds on the document
 //! after it.
-ghost use Rattle.std.specs.Prelude.{◌≡◌, ◌≢◌, ◌<◌, ◌+◌, ◌++◌, ◌∷◌, [], Ok, Err, Some, false, IsOk, IsSome, OnOk, OnErr, IfOk, IfErr, IfSome, None};
+ghost use Rattle.std.specs.Prelude.{◌≡◌, ◌≢◌, ◌<◌, ◌+◌, ◌++◌, ◌∷◌, [], Ok, Err, Some, false, IsOk, IsSome, OnOk, OnErr, IfOk, IfErr, IfSome, IfNone, None};
 ghost use Rattle.relay_tree.specs.Document.{Document, weight};
 ghost use Rattle.relay_tree.specs.Budget.{paid};
 ghost use Rattle.relay_tree.specs.declared.budget.Budget.{Budget};
@@ -8,7 +8,7 @@ ghost use Rattle.relay_patch.specs.Patch.{effect, within};
 ghost use Rattle.relay_patch.specs.After.{afforded, performed};
 ghost use Rattle.relay_patch.specs.Change.{Makes, Leads, changes_of};
 ghost use Rattle.relay_patch.specs.Measure.{is_transfer, Known};
-ghost use Rattle.relay_apply.specs.Steps.{listed, IsOverspent};
+ghost use Rattle.relay_apply.specs.Steps.{brought_weight, listed, IsOverspent};
 ghost use Rattle.relay_apply.specs.Undo.{taken_back};
 ghost use Rattle.relay_patch.specs.Weight.{change_weight, changes_weight};
 ghost use Rattle.relay_patch.specs.declared.fault.Cause.TheVariants.{NoMemory, TooHeavy};
@@ -78,9 +78,11 @@ pub(crate) fn perform(
 // Returns why an operation is refused if its value alone weighs more than is left for its change.
 // This comes first, so that no value is copied that is far too heavy. The walk over the value ends
 // where nothing is left.
+#[tactic(auto, using(relay_tree::proofs::Budgets::paid_nothing))]
 fn too_heavy(tree: &Tree, op: &Op, left: Budget) -> Option<Cause>
     ensures refused { IfSome result (IsOverspent tree.now op.now left) }
     ensures other { IfSome result (λ cause. cause ≢ NoMemory) }
+    ensures light { IfNone result (IsSome (paid (brought_weight op.now) left)) }
 {
     match op {
         Op::Add { path, value } => match value.pay(left) {
