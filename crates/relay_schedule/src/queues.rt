@@ -54,7 +54,7 @@ pub struct Wants {
 /// queues.push_writer(2);
 /// queues.push_writer(1);
 /// assert!(rt; queues.pop_writer(Output::Waiting) == Some(2));
-/// assert!(rt; queues.pop_writer(Output::Waiting) == Some(1) && queues.is_empty());
+/// assert!(rt; queues.pop_writer(Output::Waiting) == Some(1) && !queues.has_work());
 /// ```
 #[derive(Drop)]
 pub struct Queues {
@@ -73,7 +73,7 @@ impl Queues {
     /// Queues without keys, which admit none.
     ///
     /// ```
-    /// assert!(rt; Queues::new(alloc).is_empty());
+    /// assert!(rt; !Queues::new(alloc).has_work());
     /// ```
     pub fn new(alloc: Global) -> Queues
         ensures { result ≡ no_queues }
@@ -179,7 +179,7 @@ impl Queues {
     /// let mut queues = Queues::new(alloc);
     /// queues.admit(1).ok()?;
     /// queues.hold_back(1);
-    /// assert!(rt; queues.held_back() == 1 && queues.is_empty());
+    /// assert!(rt; queues.held_back() == 1 && !queues.has_work());
     /// ```
     pub fn hold_back(&mut self, key: usize)
         ensures { self.new ≡ with_held_back key self.old }
@@ -240,7 +240,7 @@ impl Queues {
     /// queues.admit(1).ok()?;
     /// let wants = Wants { read: false, corked: false, waiting: false, closing: true };
     /// queues.push(1, wants, Credit { spent: 0, round: 0 });
-    /// assert!(rt; queues.closing() == 1 && queues.is_empty());
+    /// assert!(rt; queues.closing() == 1 && !queues.has_work());
     /// ```
     pub fn closing(&self) -> usize
         ensures { result ≡ length (closing self.now).keys }
