@@ -1,7 +1,8 @@
 //! A write turn of a link, as its client needs to know it.
-ghost use Rattle.std.specs.Prelude.{◌≡◌, ◌++◌, ℕ, List, Some, IfOk};
+ghost use Rattle.std.specs.Prelude.{◌≡◌, ◌++◌, ℕ, List, Some, IfOk, OnErr};
 ghost use Rattle.relay_delivery.specs.Turn.{FramedWriteTurn};
 ghost use Rattle.relay_link.specs.Frames.{framed};
+ghost use Rattle.relay_link.specs.Turns.{Turns};
 ghost use Rattle.relay_link.specs.declared.corked_writer.CorkedWriter.{CorkedWriter};
 ghost use Rattle.relay_link.specs.declared.state.State.TheVariants.{Open};
 ghost use Rattle.tungstenite.specs.Socket.{Socket};
@@ -32,11 +33,15 @@ pub fn write_turn<S: Read + Write + Drop>(
     hub: &mut Hub,
     draws: u64,
 ) -> Result<Turn, AllocError>
-    ensures { IfOk result (λ turn.
+    ensures turns { IfOk result
+        (Turns S.remaining 0 draws hub.old link.old hub.new link.new) }
+    ensures frames { IfOk result (λ turn.
         (old new : Socket (CorkedWriter S)) (s t : ℕ) (before frames : List ℕ) →
         link.old ≡ Open old s → link.new ≡ Open new t →
         framed S.contents old ≡ Some before → framed S.contents new ≡ Some (before ++ frames) →
         FramedWriteTurn s hub.old hub.new turn.events.items frames) }
+    ensures unchanged { OnErr result (link.new ≡ link.old) }
+    ensures hub_unchanged { OnErr result (hub.new ≡ hub.old) }
 {
     link.write_turn(alloc, hub, draws)
 }
