@@ -7,7 +7,7 @@ use Rattle.relay_proto.specs.Client.{Client}
 use Rattle.relay_tree.specs.Document.{Document}
 use Rattle.websocket.specs.FrameHeader.{encode_header}
 use Rattle.relay_link.specs.Frames.{text_frame, text_frames}
-use Rattle.relay_delivery.specs.Texts.{told_all, IsFaultOf, StopsAt}
+use Rattle.relay_delivery.specs.Texts.{told_all, HearsOne, HearsTexts, IsFaultOf, StopsAt}
 use Rattle.relay_delivery.specs.declared.fault.ReceiveFault.{ReceiveFault}
 
 -- ---- texts, one after another
@@ -28,6 +28,28 @@ told_all-append c (x ∷ xs) ys = after_told (told c x) xs ys (λ m. told_all-ap
 pub told_next : (c m n : Client) (xs : List (List ℕ)) (text : List ℕ) → told_all c xs ≡ Some m
     → told m text ≡ Some n → told_all c (xs ++ text ∷ []) ≡ Some n
 told_next c m n xs text before next = rw (told_all-append c xs (text ∷ []), before, next) refl
+
+-- whatever was read: a follower hears one text, and so some texts
+
+pub hears_one : (old new : Option (ℕ × Document)) (text : List ℕ)
+    → told (as_client old) text ≡ Some (as_client new) → HearsOne old new
+hears_one old new text holds = record { text = text; holds = holds }
+
+pub hears_none : (held : Option (ℕ × Document)) → HearsTexts held held
+hears_none held = record { texts = []; holds = refl }
+
+pub hears_more : (old mid new : Option (ℕ × Document)) → HearsTexts old mid → HearsOne mid new
+    → HearsTexts old new
+hears_more old mid new before next = record {
+  texts = before.texts ++ next.text ∷ [];
+  holds =
+      told_next (as_client old) (as_client mid) (as_client new) before.texts next.text before.holds
+      next.holds;
+}
+
+pub hears_no_more : (old mid new : Option (ℕ × Document)) → HearsTexts old mid → new ≡ mid
+    → HearsTexts old new
+hears_no_more old mid new before same = rw same before
 
 -- ---- frames
 

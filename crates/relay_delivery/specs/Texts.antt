@@ -13,6 +13,16 @@ abbrev pub told_all : Client → List (List ℕ) → Option Client
 told_all c [] = Some c
 told_all c (text ∷ texts) = option_and_then (λ next. told_all next texts) (told c text)
 
+-- a follower heard one text
+pub record HearsOne (old new : Option (ℕ × Document)) : Type 0 where
+  pub text : List ℕ
+  pub holds : told (as_client old) text ≡ Some (as_client new)
+
+-- A follower heard some texts, in order, and nothing else changed what it holds.
+pub record HearsTexts (old new : Option (ℕ × Document)) : Type 0 where
+  pub texts : List (List ℕ)
+  pub holds : told_all (as_client old) texts ≡ Some (as_client new)
+
 -- the fault is that of a text to a follower: it can't be a frame's text, or the follower refuses
 -- it, or memory runs out
 abbrev pub IsFaultOf : ReceiveFault → Option (ℕ × Document) → List ℕ → Type 0

@@ -1,9 +1,9 @@
 //! One frame of a server, to a follower.
-ghost use Rattle.std.specs.Prelude.{◌≡◌, ◌<◌, ◌≤◌, ◌++◌, ℕ, List, Some, length, drop, IfOk, IfErr, OnErr, IfSome};
+ghost use Rattle.std.specs.Prelude.{◌≡◌, ◌<◌, ◌≤◌, ◌++◌, ℕ, List, Some, length, drop, IfOk, IfErr, OnOk, OnErr, IfSome};
 ghost use Rattle.relay_follow.specs.Hearing.{as_client, told};
 ghost use Rattle.relay_delivery.specs.Receiving.{listening, Takes, IsRefusalOf};
 ghost use Rattle.relay_link.specs.Frames.{text_frame};
-ghost use Rattle.relay_delivery.specs.Texts.{IsFaultOf};
+ghost use Rattle.relay_delivery.specs.Texts.{IsFaultOf, HearsOne};
 ghost use Rattle.websocket.specs.Content.{IsReceivedInside, HasValidText, received_content};
 
 use crate::fault::ReceiveFault;
@@ -13,6 +13,7 @@ use websocket::protocol::{FrameStatus, Message, NoMask, Step, WebSocketContext};
 
 /// Reads the frame in front of the bytes, and passes its text to the follower. Returns the length
 /// of the frame. An error leaves the follower unchanged.
+#[tactic(auto, using(crate::proofs::Progress::hears_one))]
 pub(crate) fn receive_frame(
     alloc: Global,
     context: &mut WebSocketContext,
@@ -30,6 +31,7 @@ pub(crate) fn receive_frame(
     ensures refused { (text rest : List ℕ) → context.old ≡ listening
         → frames.old ≡ text_frame text ++ rest
         → IfErr result (λ fault. IsFaultOf fault follower.old text) }
+    ensures one { OnOk result (HearsOne follower.old follower.new) }
     ensures unchanged { OnErr result (follower.new ≡ follower.old) }
 {
     let step = read_frame(alloc, context, frames)?;

@@ -1,6 +1,6 @@
 //! The frames of a server, to a follower.
 ghost use Rattle.std.specs.Prelude.{◌≡◌, ℕ, List, IfErr, OnOk};
-ghost use Rattle.relay_delivery.specs.Texts.{IsFaultOf, HearsAll};
+ghost use Rattle.relay_delivery.specs.Texts.{IsFaultOf, HearsAll, HearsTexts};
 ghost use Rattle.relay_delivery.specs.Turn.{FramedTurn, Resumes, KeepsUp, Delivered};
 ghost use Rattle.relay_follow.specs.Hearing.{as_client};
 ghost use Rattle.relay_hub.specs.Log.{Log};
@@ -27,7 +27,7 @@ const NO_LIMITS: WebSocketConfig = WebSocketConfig {
 /// handshake is done, and passes each text to the follower, in order, until no byte is left. An
 /// error comes at the first frame that is not a whole text, or whose text is not UTF-8 or is
 /// refused by the follower, or if memory runs out. It leaves the follower with what the texts
-/// before it make of what it held.
+/// before it make of what it held. Whatever the bytes are, nothing but texts changes what it holds.
 ///
 /// If the bytes are those that a turn of a link framed, and the follower held what the messages
 /// drawn before make of its start, it then holds what those drawn in the turn make of that; and if
@@ -57,10 +57,12 @@ pub fn receive(
         → Resumes b E s (as_client follower.old) turn.follows
         → KeepsUp b E hub s (as_client follower.old)
         → IfErr result (λ fault. fault ≡ ReceiveFault.NoMemory) }
+    ensures only { HearsTexts follower.old follower.new }
 {
     receive_all(alloc, frames, follower)
 }
 
+#[tactic(auto, using(crate::proofs::Progress::hears_none))]
 fn receive_all(
     alloc: Global,
     frames: &mut [u8],
@@ -68,6 +70,7 @@ fn receive_all(
 ) -> Result<(), ReceiveFault>
     ensures hears { (texts : List (List ℕ)) → frames.old ≡ text_frames texts
         → HearsAll IsFaultOf follower.old follower.new texts result }
+    ensures only { HearsTexts follower.old follower.new }
 {
     let mut context = WebSocketContext::new(alloc, Role::Client, NO_LIMITS);
     let mut start = 0;

@@ -2,7 +2,7 @@
 //! anywhere.
 ghost use Rattle.std.specs.Prelude.{◌≡◌, ◌<◌, ◌^◌, ◌++◌, ℕ, List, Some, length, IfErr, OnOk, OnErr};
 ghost use Rattle.relay_delivery.specs.Socket.{Listens, IsNextFault, FitFrames};
-ghost use Rattle.relay_delivery.specs.Texts.{HearsAll};
+ghost use Rattle.relay_delivery.specs.Texts.{HearsAll, HearsOne, HearsTexts};
 ghost use Rattle.relay_delivery.specs.Turn.{FramedTurn, Resumes, KeepsUp, Delivered};
 ghost use Rattle.relay_follow.specs.Hearing.{as_client, told};
 ghost use Rattle.relay_hub.specs.Log.{Log};
@@ -55,6 +55,7 @@ pub fn client_on<S: Read + Write + Drop, K: MaskKeys + Drop>(
 /// hear_next(alloc, &mut socket, &mut follower).ok()?;
 /// assert!(rt; follower.view().is_none());
 /// ```
+#[tactic(auto, using(crate::proofs::Progress::hears_one))]
 pub fn hear_next<S: Read + Write + Drop, K: MaskKeys + Drop>(
     alloc: Global,
     socket: &mut WebSocket<S, K>,
@@ -67,6 +68,7 @@ pub fn hear_next<S: Read + Write + Drop, K: MaskKeys + Drop>(
     ensures refused { (text rest : List ℕ) → length text < 2 ^ 63
         → Listens S.remaining socket.old (text_frame text ++ rest)
         → IfErr result (λ fault. IsNextFault fault follower.old text) }
+    ensures one { OnOk result (HearsOne follower.old follower.new) }
     ensures unchanged { OnErr result (follower.new ≡ follower.old) }
 {
     let message = match socket.read() {
@@ -85,7 +87,8 @@ pub fn hear_next<S: Read + Write + Drop, K: MaskKeys + Drop>(
 /// Reads as many messages off a client's socket as a turn of its link drew, and passes their texts
 /// to the follower. If the bytes that are still to be read begin with what the turn framed, the
 /// follower then holds what [`receive`](crate::receive) would leave it with. An error leaves it
-/// with what the texts before make of what it held.
+/// with what the texts before make of what it held. Whatever the bytes are, nothing but texts
+/// changes what it holds.
 ///
 /// ```
 /// // Two frames of a text each: a reply, and a snapshot.
@@ -115,6 +118,7 @@ pub fn hear_texts<S: Read + Write + Drop, K: MaskKeys + Drop>(
         → KeepsUp b E hub s (as_client follower.old)
         → OnOk result (Delivered b (with_events turn.follows E) next s (as_client follower.new)
         × Listens S.remaining socket.new rest) }
+    ensures only { HearsTexts follower.old follower.new }
 {
     hear_all(alloc, socket, count, follower)
 }
@@ -129,6 +133,7 @@ fn hear_all<S: Read + Write + Drop, K: MaskKeys + Drop>(
         → FitFrames texts → Listens S.remaining socket.old (text_frames texts ++ rest)
         → HearsAll IsNextFault follower.old follower.new texts result
         × OnOk result (Listens S.remaining socket.new rest) }
+    ensures only { HearsTexts follower.old follower.new }
 {
     for _ in 0..count {
         match hear_next(alloc, socket, follower) {

@@ -1,6 +1,6 @@
 use Rattle.std.proofs.Common.{◌≡◌, ◌-◌, ◌<◌, length, take, drop, ◌∙◌, ap, arith, length-drop}
 use Rattle.relay_delivery.proofs.Parts.{part_is, put_length, put_from}
-use Rattle.relay_delivery.proofs.Progress.{heard_all, heard_next, stops_next}
+use Rattle.relay_delivery.proofs.Progress.{heard_all, heard_next, stops_next, hears_more, hears_no_more}
 use Rattle.relay_delivery.proofs.receiving.receive_all.Goals as goal
 
 pub returns-then-start-frames : goal.returns-then-start-frames
@@ -11,6 +11,7 @@ returns-then-start-frames c = record {
             c.loop.start (omega arith) (c.loop.invariant.hears texts is).1;
         stopped = tt;
       };
+  only = c.loop.invariant.only;
 }
 
 pub returns-in-Err : goal.returns-in-Err
@@ -25,6 +26,9 @@ returns-in-Err c = record {
       c.in-Err.fault (λ text rest part.
       c.in-Err.ensures.refused text rest h.0 part) c.in-Err.ensures.unchanged in
       record { heard = tt; stopped = stops };
+  only =
+      hears_no_more c.args.follower.now c.loop.follower c.receive_frame.new.follower
+      c.loop.invariant.only c.in-Err.ensures.unchanged;
 }
 
 pub loop-preserved : goal.loop-preserved
@@ -49,6 +53,9 @@ loop-preserved c =
           (drop c.loop.start f) _ some h.1 (part_is f c.loop.start)
           n _ (λ text rest part. c.in-Ok.ensures.heard text rest h.0 part)
           (put_from f c.receive_frame.new.frames c.loop.start within same n ∙ c.in-Ok.ensures.rest);
+      only =
+          hears_more c.args.follower.now c.loop.follower c.receive_frame.new.follower
+          c.loop.invariant.only c.in-Ok.ensures.one;
     }
 
 pub returns : goal.returns
@@ -61,4 +68,5 @@ returns c = record {
             (h.hears texts is).1;
         stopped = tt;
       };
+  only = c.loop.invariant.only;
 }

@@ -2,6 +2,7 @@
 use Rattle.std.proofs.Common.{◌≡◌, ◌≤◌, ℕ, List, length, drop}
 use Rattle.relay_delivery.specs.Receiving.{listening}
 use Rattle.relay_link.specs.Frames.{text_frames}
+use Rattle.relay_delivery.specs.Texts.{HearsTexts}
 use Rattle.relay_delivery.proofs.Progress.{HasHeard}
 use Rattle.relay_delivery.proofs.receiving.receive_all.Given as goal
 
@@ -13,4 +14,5 @@ invariant-loop l = record {
   hears : (texts : List (List ℕ)) → l.initial.frames ≡ text_frames texts
       → (l.context ≡ listening)
       × HasHeard l.initial.follower l.follower texts (drop l.start l.frames);
+  only : HearsTexts l.initial.follower l.follower;
 }

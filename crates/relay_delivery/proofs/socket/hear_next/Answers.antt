@@ -12,6 +12,7 @@ returns-in_default g c = record {
       c.in-Ok.message text rest c.in-Ok.is small listens c.read.ensures in
       let said = only_text c.in-Ok.message text next.0 in
       absurd (c.in_default.not-Text said.0 said.1);
+  one = tt;
   unchanged = refl;
 }
 
