@@ -5,6 +5,12 @@ ghost use Rattle.relay_admin.specs.AdminFaults.{status_of, line_of, why_of};
 use http::StatusCode;
 
 /// Why a request is refused, in the order in which it is checked.
+///
+/// ```
+/// // A page that reaches the port under a name of its own sends that name.
+/// let head = "GET /metrics HTTP/1.1\r\nHost: relay.example\r\n\r\n";
+/// assert!(rt; matches!(ask(alloc, head.as_bytes()), Ok(Ask::Refused(AdminFault::OtherHost))));
+/// ```
 #[derive(Clone, Copy, Debug, PartialEq, Eq)]
 pub enum AdminFault {
     /// 400: the bytes can never become a request's head.
@@ -47,6 +53,11 @@ pub enum AdminFault {
 
 impl AdminFault {
     /// The status of the response.
+    ///
+    /// ```
+    /// assert!(rt; AdminFault::OtherHost.status() == StatusCode::FORBIDDEN);
+    /// assert!(rt; AdminFault::OnlyPost.status() == StatusCode::METHOD_NOT_ALLOWED);
+    /// ```
     pub fn status(self) -> StatusCode
         ensures { result ≡ status_of self }
     {

@@ -4,6 +4,13 @@ use crate::request::AdminRequest;
 use crate::room::{EditRequest, PartRequest};
 
 /// The answer to the bytes received so far.
+///
+/// ```
+/// let start = "POST /stop HTTP/1.1\r\nHost: localhost\r\n";
+/// assert!(rt; matches!(ask(alloc, start.as_bytes()), Ok(Ask::More)));
+/// let head = "POST /stop HTTP/1.1\r\nHost: localhost\r\n\r\n";
+/// assert!(rt; matches!(ask(alloc, head.as_bytes()), Ok(Ask::Request(AdminRequest::Stop))));
+/// ```
 #[derive(Debug, Drop)]
 pub enum Ask {
     /// The head is not complete: more bytes are needed.

@@ -17,6 +17,11 @@ pub const NOT_JSON: &str = r#"{"at":null,"fault":"not-json","id":null,"kind":"re
 /// Returns the text of the request that watches the part at one pointer, with the id 1:
 /// `{"do":"watch","id":1,"view":["POINTER"]}`. If memory runs out, it returns `AllocError` and
 /// leaves nothing behind.
+///
+/// ```
+/// let text = watch_text(alloc, "/cards").ok()?;
+/// assert!(rt; text.as_str() == r#"{"do":"watch","id":1,"view":["/cards"]}"#);
+/// ```
 pub fn watch_text(alloc: Global, at: &str) -> Result<String, AllocError>
     ensures text { IfOk result (λ text. string_bytes text ≡ print (watch_tokens at.now)) }
     ensures reads_back { IfOk result (λ text. tokens (string_bytes text) ≡ watch_tokens at.now) }
@@ -35,6 +40,14 @@ pub fn watch_text(alloc: Global, at: &str) -> Result<String, AllocError>
 /// written anew, token by token, so it loses white space. `None` if it is not one JSON text in
 /// UTF-8, which would make another request of it ([`NOT_JSON`]). If memory runs out, it returns
 /// `AllocError` and leaves nothing behind.
+///
+/// ```
+/// let body = br#"[{"op": "remove", "path": "/a"}]"#;
+/// let text = edit_text(alloc, Some(4), body).ok()??;
+/// let wanted = r#"{"do":"edit","id":1,"base":4,"patch":[{"op":"remove","path":"/a"}]}"#;
+/// assert!(rt; text.as_str() == wanted);
+/// assert!(rt; edit_text(alloc, None, b"[1,]").ok()?.is_none());
+/// ```
 #[tactic(auto, using(crate::proofs::Documents::document_printable))]
 pub fn edit_text(
     alloc: Global,
@@ -139,6 +152,11 @@ fn text_of(out: Writer) -> String
 
 /// Returns the value that a snapshot of a view of one slot shows, which is empty if the pointer
 /// leads to nothing. `None` if the text is no such snapshot of the revision `rev`.
+///
+/// ```
+/// let snapshot = r#"{"kind":"snapshot","rev":1,"view":[[7]]}"#;
+/// assert!(rt; shown_value(snapshot, 1) == Some("7") && shown_value(snapshot, 2) == None);
+/// ```
 pub fn shown_value(text: &str, rev: u64) -> Option<&str>
     ensures { MatchOption result
         ((value : List ℕ) → text.now ≢ snapshot_text rev value)

@@ -5,6 +5,11 @@ ghost use Rattle.relay_admin.specs.AdminFaults.{kept_status, kept_why};
 use http::StatusCode;
 
 /// Why a room is not forgotten: it stays as it is.
+///
+/// ```
+/// let text = response_text(alloc, &Response::NotForgotten(NotForgotten::NoRoom)).ok()?;
+/// assert!(rt; text.as_str().starts_with("HTTP/1.1 404 Not Found\r\n"));
+/// ```
 #[derive(Clone, Copy, Debug, PartialEq, Eq)]
 pub enum NotForgotten {
     /// 404: no room has this name.

@@ -5,6 +5,11 @@ ghost use Rattle.relay_admin.specs.Outcome.{fault_in, is_malformed, outcome_of, 
 use crate::cut::{behind, cut};
 
 /// What came of a request, by the hub's reply to it.
+///
+/// ```
+/// let stale = r#"{"at":null,"fault":"stale","id":1,"kind":"refused","rev":5}"#;
+/// assert!(rt; outcome_of(stale) == relay_admin::Outcome::Stale);
+/// ```
 #[derive(Clone, Copy, Debug, PartialEq, Eq)]
 pub enum Outcome {
     /// It was done: the response to an edit is [`crate::Response::Edited`].
@@ -19,6 +24,13 @@ pub enum Outcome {
 }
 
 /// Returns what came of a request, by the hub's reply to it. Only a refusal has a fault.
+///
+/// ```
+/// let done = r#"{"id":1,"kind":"done","rev":5}"#;
+/// assert!(rt; matches!(outcome_of(done), relay_admin::Outcome::Accepted));
+/// let refused = r#"{"at":0,"fault":"test-failed","id":1,"kind":"refused"}"#;
+/// assert!(rt; matches!(outcome_of(refused), relay_admin::Outcome::Unprocessable));
+/// ```
 pub fn outcome_of(reply: &str) -> Outcome
     ensures { result ≡ outcome_of reply.now }
 {

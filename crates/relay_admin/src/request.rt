@@ -3,6 +3,11 @@ ghost use Rattle.std.specs.Prelude.{◌≡◌};
 ghost use Rattle.relay_admin.specs.Route.{method_of};
 
 /// A request of an operator.
+///
+/// ```
+/// let head = "GET /health HTTP/1.1\r\nHost: 127.0.0.1:9000\r\n\r\n";
+/// assert!(rt; matches!(ask(alloc, head.as_bytes()), Ok(Ask::Request(AdminRequest::Health))));
+/// ```
 #[derive(Clone, Copy, Debug, PartialEq, Eq)]
 pub enum AdminRequest {
     /// `GET /health`: whether the relay serves its clients.

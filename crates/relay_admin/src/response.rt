@@ -10,6 +10,11 @@ use http::StatusCode;
 use std::alloc::{AllocError, Global};
 
 /// A response, by what it says.
+///
+/// ```
+/// let text = response_text(alloc, &Response::Forgotten).ok()?;
+/// assert!(rt; text.as_str().starts_with("HTTP/1.1 204 No Content\r\n"));
+/// ```
 #[derive(Clone, Copy, Debug)]
 pub enum Response<'a> {
     /// 200: the relay serves its clients.

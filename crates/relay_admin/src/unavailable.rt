@@ -3,6 +3,11 @@ ghost use Rattle.std.specs.Prelude.{◌≡◌};
 ghost use Rattle.relay_admin.specs.AdminFaults.{unavailable_why};
 
 /// Why a room cannot be entered, or opened by name, now. Nothing was changed.
+///
+/// ```
+/// let text = response_text(alloc, &Response::Unavailable(Unavailable::Rooms)).ok()?;
+/// assert!(rt; text.as_str().starts_with("HTTP/1.1 503 Service Unavailable\r\n"));
+/// ```
 #[derive(Clone, Copy, Debug, PartialEq, Eq)]
 pub enum Unavailable {
     /// There are as many rooms as there may be, and none is evictable; or so many are open by name.

@@ -70,6 +70,7 @@ pub fn apply(
 }
 
 /// The result of a patch on a document whose weight the caller keeps.
+/// See [`apply_within`].
 #[derive(Drop)]
 pub struct Applied {
     pub changes: Vec<Change>,

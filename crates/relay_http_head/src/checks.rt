@@ -4,6 +4,11 @@ ghost use Rattle.std.specs.Prelude.{◌≡◌, OnOk, OnErr, IfErr, true, false};
 use std::alloc::AllocError;
 
 /// Why a head is not accepted.
+///
+/// ```
+/// let refused: Result<(), Fault<u16>> = demand(false, 404);
+/// assert!(rt; refused == Err(Fault::Refused(404)));
+/// ```
 #[derive(Clone, Copy, Debug, PartialEq, Eq, Drop)]
 pub enum Fault<R> {
     /// A check failed; this is its refusal.
@@ -23,6 +28,11 @@ impl<R> From<AllocError> for Fault<R> {
 }
 
 /// Refuses with the refusal unless the condition holds.
+///
+/// ```
+/// assert!(rt; demand(true, "no path") == Ok(()));
+/// assert!(rt; demand(false, "no path") == Err(Fault::Refused("no path")));
+/// ```
 pub fn demand<R: Drop>(holds: bool, refusal: R) -> Result<(), Fault<R>>
     ensures passed { OnOk result (holds ≡ true) }
     ensures failed { OnErr result (holds ≡ false) }

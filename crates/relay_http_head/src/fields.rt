@@ -12,6 +12,15 @@ ghost use Rattle.relay_http_head.specs.Head.{count_of, first_value, only_value, 
 use httparse::Header;
 
 /// Returns the value of the field with this name, if there is exactly one.
+///
+/// ```
+/// let mut fields = [EMPTY_HEADER; 16];
+/// let mut request = httparse::Request::new(&mut fields);
+/// let bytes = b"GET / HTTP/1.1\r\nHost: localhost\r\n\r\n";
+/// assert!(rt; matches!(parse_head(&mut request, bytes, 48), Parsed::Complete(_)));
+/// assert!(rt; only_value(request.headers, "host") == Some(b"localhost".as_slice()));
+/// assert!(rt; only_value(request.headers, "Origin") == None);
+/// ```
 pub fn only_value<'b>(fields: &[Header<'b>], name: &str) -> Option<&'b [u8]>
     ensures { option_map (λ value. value.now) result
         ≡ only_value name.now (map header_parts fields.now) }
@@ -24,6 +33,14 @@ pub fn only_value<'b>(fields: &[Header<'b>], name: &str) -> Option<&'b [u8]>
 }
 
 /// Returns whether there is a field with this name.
+///
+/// ```
+/// let mut fields = [EMPTY_HEADER; 16];
+/// let mut request = httparse::Request::new(&mut fields);
+/// let bytes = b"GET / HTTP/1.1\r\nHost: localhost\r\n\r\n";
+/// assert!(rt; matches!(parse_head(&mut request, bytes, 48), Parsed::Complete(_)));
+/// assert!(rt; has_field(request.headers, "host") && !has_field(request.headers, "Origin"));
+/// ```
 pub fn has_field(fields: &[Header<'_>], name: &str) -> bool
     ensures { result ≡ has_field name.now (map header_parts fields.now) }
 {
@@ -31,6 +48,15 @@ pub fn has_field(fields: &[Header<'_>], name: &str) -> bool
 }
 
 /// Returns whether a field with this name lists the element.
+///
+/// ```
+/// let mut fields = [EMPTY_HEADER; 32];
+/// let mut request = httparse::Request::new(&mut fields);
+/// let bytes = b"GET / HTTP/1.1\r\nConnection: keep-alive, Upgrade\r\n\r\n";
+/// assert!(rt; matches!(parse_head(&mut request, bytes, 96), Parsed::Complete(_)));
+/// assert!(rt; has_element(request.headers, "Connection", "upgrade"));
+/// assert!(rt; !has_element(request.headers, "Connection", "close"));
+/// ```
 pub fn has_element(fields: &[Header<'_>], name: &str, element: &str) -> bool
     ensures { result ≡ has_element name.now element.now (map header_parts fields.now) }
 {

@@ -6,6 +6,12 @@ ghost use Rattle.relay_http_head.specs.Parsing.{IsParsed, IsBeforeHead};
 use httparse::{Error, Request, Status};
 
 /// What bytes begin with.
+///
+/// ```
+/// let mut fields = [EMPTY_HEADER; 16];
+/// let mut request = httparse::Request::new(&mut fields);
+/// assert!(rt; parse_head(&mut request, b"GET / HTTP/1.1\r\n", 48) == Parsed::Partial);
+/// ```
 #[derive(Clone, Copy, Debug, PartialEq, Eq)]
 pub enum Parsed {
     /// A head of so many bytes.
@@ -24,6 +30,14 @@ pub enum Parsed {
 /// bytes. If the head is complete, the request holds its parts, and [`crate::head_of`] takes them.
 /// One case is left open: if the bytes end in a target that no head can have, such as one that is
 /// not UTF-8, they may count as the beginning of a head until the target has ended.
+///
+/// ```
+/// let mut fields = [EMPTY_HEADER; 16];
+/// let mut request = httparse::Request::new(&mut fields);
+/// let bytes = b"GET / HTTP/1.1\r\n\r\nmore";
+/// // The head has 18 bytes.
+/// assert!(rt; parse_head(&mut request, bytes, 48) == Parsed::Complete(18));
+/// ```
 pub fn parse_head<'b>(request: &mut Request<'_, 'b>, bytes: &'b [u8], most: usize) -> Parsed
     requires { most < 3 * (length request.old.headers.now + 1) }
     ensures { IsParsed most bytes.now request.new result }

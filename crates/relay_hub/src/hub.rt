@@ -40,6 +40,17 @@ use std::alloc::{AllocError, Global};
 use std::marker::Model;
 
 /// The rooms and the open sessions of a relay.
+///
+/// ```
+/// let mut hub = Hub::new(alloc, 1, 1, 64, 32).ok()?;
+/// let session = hub.open(alloc, "board", Access::ReadWrite).ok()?.session;
+/// hub.receive(alloc, session, r#"{"do": "watch", "id": 2, "view": [""]}"#).ok()?;
+/// // The first message is the welcome.
+/// hub.draw(alloc, session).ok()??;
+/// let (reply, shown) = (hub.draw(alloc, session).ok()??, hub.draw(alloc, session).ok()??);
+/// assert!(rt; reply.as_str() == r#"{"id":2,"kind":"watching"}"#);
+/// assert!(rt; shown.as_str() == r#"{"kind":"snapshot","rev":0,"view":[[null]]}"#);
+/// ```
 #[derive(Drop)]
 pub struct Hub {
     config: HubConfig,

@@ -94,6 +94,11 @@ impl FaultCount {
 
 impl MessageCounts {
     /// Before anything was drawn.
+    ///
+    /// ```
+    /// let counts = MessageCounts::none();
+    /// assert!(rt; counts.replies == 0 && counts.refusals.iter().all(|word| word.count == 0));
+    /// ```
     pub fn none() -> MessageCounts {
         MessageCounts {
             replies: 0,
@@ -138,6 +143,14 @@ impl MessageCounts {
     }
 
     /// Counts a reply.
+    ///
+    /// ```
+    /// let mut counts = MessageCounts::none();
+    /// counts.count_reply(&Reply::Done { id: 1, rev: 4 });
+    /// counts.count_reply(&Refusal { fault: Word::Shape, id: Some(2), at: None }.reply());
+    /// let refused = counts.refusals.iter().find(|refusals| refusals.count > 0)?;
+    /// assert!(rt; counts.replies == 2 && refused.word() == "shape");
+    /// ```
     pub fn count_reply(&mut self, reply: &Reply) {
         self.replies = next(self.replies);
         if let Reply::Refused { fault, .. } = reply {
@@ -154,6 +167,12 @@ impl MessageCounts {
     }
 
     /// Counts a patch.
+    ///
+    /// ```
+    /// let mut counts = MessageCounts::none();
+    /// counts.count_patch();
+    /// assert!(rt; counts.patches == 1 && counts.replies == 0);
+    /// ```
     pub fn count_patch(&mut self) {
         self.patches = next(self.patches);
     }

@@ -7,6 +7,11 @@ use std::net::SocketAddr;
 use thiserror::Error;
 
 /// Why a job with sockets ended early. Its connections are dropped.
+///
+/// ```
+/// let fault = ServeFault::from(ScriptFault::Input);
+/// assert!(rt; fault == ServeFault::Ended(ScriptFault::Input));
+/// ```
 #[derive(Clone, Copy, Debug, PartialEq, Eq, Error)]
 pub enum ServeFault {
     /// The address cannot be opened for listening. `code` is the number of the system's error, if

@@ -8,6 +8,10 @@ use crate::fault::ServeFault;
 use std::net::{IpAddr, Ipv4Addr, Net, OpenListener, SocketAddr};
 
 /// The address 127.0.0.1 with a port. Only programs on the same machine reach it.
+///
+/// ```
+/// assert!(rt; loopback_at(8_080) == SocketAddr::from((Ipv4Addr::LOCALHOST, 8_080)));
+/// ```
 pub fn loopback_at(port: u16) -> SocketAddr
     ensures ip { MatchIp (socket_ip result) IsLoopbackV4 IsLoopbackV6 }
     ensures port { socket_port result ≡ port }

@@ -12,6 +12,11 @@ use std::os::fd::AsRawFd;
 use std::time::Duration;
 
 /// What a stream is ready for.
+///
+/// ```
+/// let ready = StreamReady { is_over: false, ..StreamReady::ALL };
+/// assert!(rt; ready.readable && ready.writable);
+/// ```
 #[derive(Clone, Copy, Debug, PartialEq, Eq)]
 pub struct StreamReady {
     pub readable: bool,

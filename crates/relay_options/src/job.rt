@@ -4,6 +4,11 @@ use std::alloc::AllocError;
 use std::net::IpAddr;
 
 /// The job that the arguments ask for.
+///
+/// ```
+/// let words = [String::from_str(alloc, "relay").ok()?, String::from_str(alloc, "follow").ok()?];
+/// assert!(rt; matches!(job_of(alloc, &words, None), Ok(Job::Follow)));
+/// ```
 #[derive(Clone, Copy, Debug, PartialEq, Eq)]
 pub enum Job {
     /// `relay`, or `relay script`: run a script.
@@ -37,6 +42,11 @@ pub enum Job {
 }
 
 /// Why there is no job.
+///
+/// ```
+/// let words = [String::from_str(alloc, "relay").ok()?, String::from_str(alloc, "walk").ok()?];
+/// assert!(rt; matches!(job_of(alloc, &words, None), Err(Stop::Misuse(_))));
+/// ```
 #[derive(Debug, Drop)]
 pub enum Stop {
     /// The requested help or version, for standard output.

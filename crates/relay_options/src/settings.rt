@@ -17,6 +17,12 @@ pub const MAX_OUTPUT_MIB: u64 = 1_048_576;
 pub const MAX_PORT: u64 = 65_535;
 
 /// The settings of a hub. Those of a job are in range.
+///
+/// ```
+/// let words = [String::from_str(alloc, "relay").ok()?];
+/// let job = job_of(alloc, &words, None);
+/// assert!(rt; matches!(job, Ok(Job::Script(settings)) if settings == Settings::DEFAULT));
+/// ```
 #[derive(Clone, Copy, Debug, PartialEq, Eq)]
 pub struct Settings {
     /// `--history`: the number of revisions that each room holds, 1 to 1,024.

@@ -19,6 +19,16 @@ use std::alloc::Global;
 pub const MAX_BODY: u64 = 1_048_576;
 
 /// A request to edit a room by the JSON Patch in its body.
+///
+/// ```
+/// let head = "PATCH /rooms/board HTTP/1.1\r\nHost: localhost\r\n";
+/// let fields = "Content-Type: application/json-patch+json\r\nContent-Length: 2\r\n";
+/// let asked = format!(in alloc; "{head}{fields}\r\n[]").ok()?;
+/// let Ask::Edit(edit) = ask(alloc, asked.as_bytes()).ok()? else {
+///     return None;
+/// };
+/// assert!(rt; edit.room.as_str() == "board" && edit.length == 2 && edit.if_match.is_any());
+/// ```
 #[derive(Debug, Drop)]
 pub struct EditRequest {
     /// The name of the room, which may be anything.

@@ -13,6 +13,16 @@ use std::marker::Model;
 
 /// What the fields `If-Match` or `If-None-Match` of a request list. Contracts see the values, each
 /// with a comma behind it, since several fields are one list (RFC 9110, section 5.3).
+///
+/// ```
+/// let head = "GET /rooms/board HTTP/1.1\r\nHost: localhost\r\nIf-None-Match: W/\"5-7\"\r\n\r\n";
+/// let Ask::Read(part) = ask(alloc, head.as_bytes()).ok()? else {
+///     return None;
+/// };
+/// let tags = &part.if_none_match;
+/// assert!(rt; tags.names(alloc, RevisionTag { epoch: 5, rev: 7 }) == Ok(true));
+/// assert!(rt; tags.names(alloc, RevisionTag { epoch: 5, rev: 8 }) == Ok(false));
+/// ```
 #[derive(Debug, Drop)]
 pub struct EntityTags {
     list: Vec<u8>,
@@ -44,6 +54,14 @@ impl EntityTags {
     }
 
     /// Whether `If-Match` asks for no revision: there is no such field, or it is `*`.
+    ///
+    /// ```
+    /// let head = "GET /rooms/board HTTP/1.1\r\nHost: localhost\r\n\r\n";
+    /// let Ask::Read(part) = ask(alloc, head.as_bytes()).ok()? else {
+    ///     return None;
+    /// };
+    /// assert!(rt; part.if_none_match.is_any());
+    /// ```
     pub fn is_any(&self) -> bool
         ensures { result ≡ is_any self.now }
     {
@@ -53,6 +71,16 @@ impl EntityTags {
     /// Whether `If-Match` holds at the revision with this tag: it asks for none, or lists this tag
     /// alone (RFC 9110, section 13.1.1). A weak tag never holds, nor does a list of several. If
     /// memory runs out, it returns `AllocError`.
+    ///
+    /// ```
+    /// let head = "PATCH /rooms/board HTTP/1.1\r\nHost: localhost\r\nIf-Match: \"5-7\"\r\n";
+    /// let fields = "Content-Type: application/json-patch+json\r\nContent-Length: 2\r\n";
+    /// let asked = format!(in alloc; "{head}{fields}\r\n[]").ok()?;
+    /// let Ask::Edit(edit) = ask(alloc, asked.as_bytes()).ok()? else {
+    ///     return None;
+    /// };
+    /// assert!(rt; edit.if_match.matches(alloc, RevisionTag { epoch: 5, rev: 7 }) == Ok(true));
+    /// ```
     pub fn matches(&self, alloc: Global, tag: RevisionTag) -> Result<bool, AllocError>
         ensures { IfOk result (λ holds. holds ≡ matches tag self.now) }
     {
@@ -64,6 +92,14 @@ impl EntityTags {
     /// Whether `If-None-Match` names the revision with this tag: it lists `*`, or the tag, strong
     /// or weak (RFC 9110, section 13.1.2), in which `w/` counts as `W/`. If memory runs out, it
     /// returns `AllocError`.
+    ///
+    /// ```
+    /// let head = "GET /rooms/board HTTP/1.1\r\nHost: localhost\r\nIf-None-Match: *\r\n\r\n";
+    /// let Ask::Read(part) = ask(alloc, head.as_bytes()).ok()? else {
+    ///     return None;
+    /// };
+    /// assert!(rt; part.if_none_match.names(alloc, RevisionTag { epoch: 5, rev: 7 }) == Ok(true));
+    /// ```
     pub fn names(&self, alloc: Global, tag: RevisionTag) -> Result<bool, AllocError>
         ensures { IfOk result (λ named. named ≡ is_named tag self.now) }
     {

@@ -12,6 +12,15 @@ use relay_http_head::Fault;
 use std::alloc::Global;
 
 /// A request for what a pointer leads to in a room's document.
+///
+/// ```
+/// let head = "GET /rooms/board HTTP/1.1\r\nHost: localhost\r\n\r\n";
+/// let Ask::Read(part) = ask(alloc, head.as_bytes()).ok()? else {
+///     return None;
+/// };
+/// // Without a query it is the whole document.
+/// assert!(rt; part.room.as_str() == "board" && part.at.as_str() == "");
+/// ```
 #[derive(Debug, Drop)]
 pub struct PartRequest {
     /// The name of the room, which may be anything.

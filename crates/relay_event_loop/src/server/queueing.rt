@@ -20,6 +20,14 @@ use std::net::OpenStream;
 impl<S: Read + Write + OpenStream + Drop, R: Readiness<S>> Server<S, R> {
     /// The first connection that wants a turn for which it is not queued. A round leaves none, so
     /// that the next one need not walk over all connections as this does: it is for tests.
+    ///
+    /// ```
+    /// let script = ReadinessScript::new(alloc);
+    /// let hub = Hub::new(alloc, 1, 1, 64, 32).ok()?;
+    /// let readiness = ScriptedReadiness::of(&script);
+    /// let server: Server<End<'_>, _> = Server::new(alloc, hub, readiness, 1_000_000);
+    /// assert!(rt; server.unqueued() == None);
+    /// ```
     pub fn unqueued(&self) -> Option<usize> {
         for key in 0..self.key_limit() {
             if let Some(connection) = self.connections.get(key) {
