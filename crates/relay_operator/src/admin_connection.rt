@@ -1,8 +1,13 @@
 //! A connection to the admin port: one request, one response.
+ghost use Rattle.std.specs.Prelude.{◌≡◌, ◌≢◌, [], Some, is_some, IfOk, IfSome, OnOk, option_copied, string_bytes};
+ghost use Rattle.std.specs.Io.KnownBytes.{IsAtEnd};
+ghost use Rattle.std.specs.IoError.{error_kind};
+ghost use Rattle.relay_operator.specs.Connection.{AnswersIfWhole, IsFresh, Receives, SameButStream, Sends, Tells, answered, asked_by, asking, body_of, missing_by, missing_of, moved_after, unsent};
+
 use crate::room_request::RoomRequest;
 use relay_admin::{Ask, EditRequest, MAX_HEAD, ask};
 use std::alloc::{AllocError, Global};
-use std::io::{ErrorKind, Read, Write};
+use std::io::{Error, ErrorKind, Read, Write};
 use std::net::{OpenStream, Shutdown};
 
 /// How many bytes one read takes at most.
@@ -40,8 +45,25 @@ pub(crate) enum Found {
     Over,
 }
 
+/// What one read or one write came to.
+#[derive(Clone, Copy, Debug, PartialEq, Eq)]
+pub(crate) enum Moved {
+    /// So many bytes were moved, one or more.
+    Bytes(usize),
+    /// None can be moved now.
+    Nothing,
+    /// The call was interrupted, and may be made again.
+    Again,
+    /// There are none left to move: the stream has no more to give, or all was sent.
+    Done,
+    /// The stream failed.
+    Failed,
+}
+
 impl<S: Read + Write + OpenStream + Drop> AdminConnection<S> {
-    pub(crate) fn new(alloc: Global, stream: S) -> AdminConnection<S> {
+    pub(crate) fn new(alloc: Global, stream: S) -> AdminConnection<S>
+        ensures { IsFresh stream result }
+    {
         AdminConnection {
             stream,
             received: Vec::new(alloc),
@@ -52,18 +74,25 @@ impl<S: Read + Write + OpenStream + Drop> AdminConnection<S> {
     }
 
     /// Whether it has its response.
-    pub(crate) fn is_answered(&self) -> bool {
+    pub(crate) fn is_answered(&self) -> bool
+        ensures { result ≡ is_some self.now.reply }
+    {
         self.reply.is_some()
     }
 
-    /// Gives it its response.
-    pub(crate) fn answer(&mut self, reply: String) {
+    /// Gives it its response, of which nothing was sent.
+    pub(crate) fn answer(&mut self, reply: String)
+        ensures { self.new ≡ answered reply self.old }
+    {
         self.asked = None;
         self.reply = Some(reply);
+        self.sent = 0;
     }
 
     /// Notes what it asks of a room. Of an edit, the body may have come with the head.
-    pub(crate) fn ask_of_room(&mut self, request: RoomRequest) -> Found {
+    pub(crate) fn ask_of_room(&mut self, request: RoomRequest) -> Found
+        ensures { self.new ≡ asking request self.old }
+    {
         let found = match &request {
             RoomRequest::Edit(_) => Found::More,
             _ => Found::Nothing,
@@ -73,7 +102,9 @@ impl<S: Read + Write + OpenStream + Drop> AdminConnection<S> {
     }
 
     /// What it asks of a room, while that has no response and all of the request was received.
-    pub(crate) fn asked(&self) -> Option<&RoomRequest> {
+    pub(crate) fn asked(&self) -> Option<&RoomRequest>
+        ensures { option_copied result ≡ asked_by self.now }
+    {
         let asked = self.asked.as_ref()?;
         match asked {
             RoomRequest::Edit(edit) if self.missing(edit) > 0 => None,
@@ -82,13 +113,17 @@ impl<S: Read + Write + OpenStream + Drop> AdminConnection<S> {
     }
 
     /// How many bytes of an edit's body are still to be received.
-    fn missing(&self, edit: &EditRequest) -> usize {
+    fn missing(&self, edit: &EditRequest) -> usize
+        ensures { result ≡ missing_of edit.now self.now.received.items }
+    {
         let all = edit.head.saturating_add(edit.length as usize);
         all.saturating_sub(self.received.len())
     }
 
     /// The body of an edit, as far as it was received.
-    pub(crate) fn body(&self, edit: &EditRequest) -> &[u8] {
+    pub(crate) fn body(&self, edit: &EditRequest) -> &[u8]
+        ensures { result.now ≡ body_of edit.now self.now.received.items }
+    {
         let received = self.received.as_slice();
         let end = edit.head.saturating_add(edit.length as usize);
         let end = end.min(received.len());
@@ -96,7 +131,9 @@ impl<S: Read + Write + OpenStream + Drop> AdminConnection<S> {
     }
 
     /// How much of an edit's body is still to be received, if it asks for one.
-    pub(crate) fn missing_body(&self) -> Option<usize> {
+    pub(crate) fn missing_body(&self) -> Option<usize>
+        ensures { result ≡ missing_by self.now.asked self.now.received.items }
+    {
         match self.asked.as_ref()? {
             RoomRequest::Edit(edit) => Some(self.missing(edit)),
             _ => None,
@@ -105,24 +142,20 @@ impl<S: Read + Write + OpenStream + Drop> AdminConnection<S> {
 
     /// Reads the rest of an edit's body, as much as is there, and no more than a turn may. `Over`
     /// if the stream is over or failed.
-    pub(crate) fn read_body(&mut self, most: usize) -> Result<Found, AllocError> {
+    #[tactic(auto, using(crate::proofs::Moving::receives_same, crate::proofs::Moving::receives_then))]
+    pub(crate) fn read_body(&mut self, most: usize) -> Result<Found, AllocError>
+        ensures { OnOk result (Receives S.remaining self.old self.new) }
+    {
         let mut missing = most;
-        for _ in 0..BODY_READS {
+        for _read in 0..BODY_READS {
             if missing == 0 {
                 return Ok(Found::Nothing);
             }
-            let mut bytes = [0; READ];
-            match self.stream.read(&mut bytes) {
-                Ok(0) => return Ok(Found::Over),
-                Ok(len) => {
-                    self.received.extend_from_slice(&bytes[..len])?;
-                    missing = missing.saturating_sub(len);
-                }
-                Err(error) => match error.kind() {
-                    ErrorKind::WouldBlock => return Ok(Found::Nothing),
-                    ErrorKind::Interrupted => {}
-                    _ => return Ok(Found::Over),
-                },
+            match self.receive()? {
+                Moved::Bytes(len) => missing = missing.saturating_sub(len),
+                Moved::Nothing => return Ok(Found::Nothing),
+                Moved::Again => {}
+                Moved::Done | Moved::Failed => return Ok(Found::Over),
             }
         }
         Ok(Found::More)
@@ -130,86 +163,130 @@ impl<S: Read + Write + OpenStream + Drop> AdminConnection<S> {
 
     /// Reads until the bytes received are answered, or no more are there. `None` if the stream is
     /// over or failed.
-    pub(crate) fn hear(&mut self, alloc: Global) -> Result<Option<Ask>, AllocError> {
-        for _ in 0..READS {
-            let mut bytes = [0; READ];
-            match self.stream.read(&mut bytes) {
-                Ok(0) => return Ok(None),
-                Ok(len) => {
-                    self.received.extend_from_slice(&bytes[..len])?;
+    #[tactic(auto, using(crate::proofs::Moving::receives_same, crate::proofs::Moving::receives_then))]
+    pub(crate) fn hear(&mut self, alloc: Global) -> Result<Option<Ask>, AllocError>
+        ensures receives { OnOk result (Receives S.remaining self.old self.new) }
+        ensures answers { IfOk result
+            (λ heard. IfSome heard (AnswersIfWhole self.new.received.items)) }
+    {
+        for _read in 0..READS {
+            match self.receive()? {
+                Moved::Bytes(_) => {
                     let asked = ask(alloc, self.received.as_slice())?;
                     if !matches!(asked, Ask::More) {
                         return Ok(Some(asked));
                     }
                 }
-                Err(error) => match error.kind() {
-                    ErrorKind::WouldBlock => return Ok(Some(Ask::More)),
-                    ErrorKind::Interrupted => {}
-                    _ => return Ok(None),
-                },
+                Moved::Nothing => return Ok(Some(Ask::More)),
+                Moved::Again => {}
+                Moved::Done | Moved::Failed => return Ok(None),
             }
         }
         Ok(Some(Ask::More))
     }
 
+    /// Reads once. Without memory what was read is lost.
+    #[tactic(auto, using(crate::proofs::Moving::receives_same))]
+    fn receive(&mut self) -> Result<Moved, AllocError>
+        ensures receives { OnOk result (Receives S.remaining self.old self.new) }
+        ensures done { IfOk result
+            (λ moved. moved ≡ Moved.Done → IsAtEnd (S.remaining self.new.stream)) }
+    {
+        let mut bytes = [0; READ];
+        match self.stream.read(&mut bytes) {
+            Ok(0) => Ok(Moved::Done),
+            Ok(len) => {
+                self.received.extend_from_slice(&bytes[..len])?;
+                Ok(Moved::Bytes(len))
+            }
+            Err(error) => Ok(after(&error)),
+        }
+    }
+
     /// Sends what is left of the response, and then waits for the other side to close, dropping
     /// what it still sends.
-    pub(crate) fn tell(&mut self) -> Found {
+    #[tactic(auto, using(crate::proofs::Moving::tells_more, crate::proofs::Moving::tells_all))]
+    pub(crate) fn tell(&mut self) -> Found
+        ensures { Tells S.contents self.old self.new }
+    {
         match self.send() {
-            Found::Over if self.is_sent() => self.drain(),
-            found => found,
+            Moved::Done => self.drain(),
+            Moved::Nothing => Found::Nothing,
+            Moved::Bytes(_) | Moved::Again => Found::More,
+            Moved::Failed => Found::Over,
         }
     }
 
-    /// Whether the whole response was sent.
-    fn is_sent(&self) -> bool {
-        match &self.reply {
-            Some(reply) => self.sent >= reply.len(),
-            None => false,
+    /// Sends what is left of the response, by as many writes as a turn may make. `Done` if all was
+    /// sent.
+    #[tactic(auto, using(crate::proofs::Moving::sends_same, crate::proofs::Moving::sends_then))]
+    fn send(&mut self) -> Moved
+        ensures sends { Sends S.contents self.old self.new }
+        ensures done { result ≡ Moved.Done → unsent self.new ≡ [] }
+    {
+        for _write in 0..WRITES {
+            match self.send_once() {
+                Moved::Bytes(_) | Moved::Again => {}
+                moved => return moved,
+            }
         }
+        Moved::Again
     }
 
-    /// Sends what is left of the response. `Over` if all was sent, or if the stream failed.
-    fn send(&mut self) -> Found {
+    /// Writes once what is left of the response. `Done` if nothing is.
+    #[tactic(auto, using(crate::proofs::Moving::sends_same, crate::proofs::Moving::sends_more))]
+    fn send_once(&mut self) -> Moved
+        ensures sends { Sends S.contents self.old self.new }
+        ensures done { result ≡ Moved.Done → unsent self.new ≡ [] }
+    {
         let Some(reply) = &self.reply else {
-            return Found::Nothing;
+            return Moved::Nothing;
         };
         let bytes = reply.as_bytes();
-        for _ in 0..WRITES {
-            let from = self.sent.min(bytes.len());
-            let rest = &bytes[from..];
-            if rest.is_empty() {
-                let _ = self.stream.shutdown(Shutdown::Write);
-                return Found::Over;
-            }
-            match self.stream.write(rest) {
-                Ok(0) => return Found::Over,
-                Ok(len) => self.sent = from.saturating_add(len),
-                Err(error) => match error.kind() {
-                    ErrorKind::WouldBlock => return Found::Nothing,
-                    ErrorKind::Interrupted => {}
-                    _ => return Found::Over,
-                },
-            }
+        let from = self.sent.min(bytes.len());
+        let rest = &bytes[from..];
+        if rest.is_empty() {
+            let _ = self.stream.shutdown(Shutdown::Write);
+            return Moved::Done;
         }
-        Found::More
+        match self.stream.write(rest) {
+            Ok(0) => Moved::Failed,
+            Ok(len) => {
+                self.sent = from + len;
+                Moved::Bytes(len)
+            }
+            Err(error) => after(&error),
+        }
     }
 
     /// Drops what the other side still sends, so that its response is not lost. Whoever sends more
     /// than a head's length is left to be the oldest connection.
-    fn drain(&mut self) -> Found {
-        for _ in 0..READS {
+    fn drain(&mut self) -> Found
+        ensures { SameButStream self.old self.new }
+    {
+        for _read in 0..READS {
             let mut bytes = [0; READ];
             match self.stream.read(&mut bytes) {
                 Ok(0) => return Found::Over,
                 Ok(_) => {}
-                Err(error) => match error.kind() {
-                    ErrorKind::WouldBlock => return Found::Nothing,
-                    ErrorKind::Interrupted => {}
+                Err(error) => match after(&error) {
+                    Moved::Nothing => return Found::Nothing,
+                    Moved::Again => {}
                     _ => return Found::Over,
                 },
             }
         }
         Found::Nothing
+    }
+}
+
+/// What a read or a write that failed comes to.
+fn after(error: &Error) -> Moved
+    ensures { result ≡ moved_after (error_kind error.now) }
+{
+    match error.kind() {
+        ErrorKind::WouldBlock => Moved::Nothing,
+        ErrorKind::Interrupted => Moved::Again,
+        _ => Moved::Failed,
     }
 }

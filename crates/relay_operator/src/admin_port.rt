@@ -1,5 +1,9 @@
 //! The port of a server at which an operator asks how it is, reads, edits and forgets rooms, lets
 //! clients in, and stops it.
+ghost use Rattle.std.specs.Prelude.{◌≡◌, ◌<◌, ◌≤◌, ◌+◌, ◌^◌, IfSome, IsTrue, drop, vec_len};
+ghost use Rattle.relay_admin.specs.declared.request.AdminRequest.TheVariants.{Open, Stop};
+ghost use Rattle.relay_operator.specs.declared.admin_port.TheConstants.{MAX_CONNECTIONS};
+
 use crate::admin_connection::{AdminConnection, Found};
 use crate::admin_readiness::ADMIN_STREAM;
 use crate::admin_view::AdminView;
@@ -28,6 +32,8 @@ pub struct AdminPort<L: OpenListener> {
     is_behind: bool,
     /// What the server's log said so far, which the server counts.
     pub counters: Counters,
+    /// No more connections are held than may be.
+    ghost few: { vec_len connections ≤ MAX_CONNECTIONS },
 }
 
 /// What a turn of the admin port came to.
@@ -39,6 +45,19 @@ pub struct AdminTurn {
     pub is_opening: bool,
     /// Whether a stop was asked.
     pub is_stopping: bool,
+}
+
+impl AdminTurn {
+    ghost use Rattle.relay_operator.specs.Port.{is_more, is_open, is_stop, noted};
+
+    /// Notes what a connection's turn found, and the request that has its response now.
+    fn note(&mut self, found: Found, served: Option<AdminRequest>)
+        ensures { self.new ≡ noted found served self.old }
+    {
+        self.has_more = self.has_more || matches!(found, Found::More);
+        self.is_opening = self.is_opening || matches!(served, Some(AdminRequest::Open));
+        self.is_stopping = self.is_stopping || matches!(served, Some(AdminRequest::Stop));
+    }
 }
 
 impl<L: OpenListener> AdminPort<L>
@@ -58,25 +77,43 @@ where
         }
     }
 
+    ghost use Rattle.relay_operator.specs.Port.{Admits, AsksAt, Holds, OnlyAt, SomeAsks};
+
     /// Accepts connections that wait, at most as many as may be held. Returns whether more may
     /// wait. A connection that cannot be held is dropped.
-    pub fn accept<R: Readiness<L::Stream>>(&mut self, alloc: Global, readiness: &mut R) -> bool {
+    #[tactic(auto, using(crate::proofs::Holding::admits_same, crate::proofs::Holding::admits_then))]
+    pub fn accept<R: Readiness<L::Stream>>(&mut self, alloc: Global, readiness: &mut R) -> bool
+        ensures { Admits self.old.connections.items self.new.connections.items }
+    {
         for _ in 0..MAX_CONNECTIONS {
             let Ok((stream, _)) = self.listener.accept() else {
                 return false;
             };
-            if stream.set_nonblocking(true).is_ok()
-                && readiness.watch(ADMIN_STREAM, &stream).is_ok()
-            {
-                self.hold(AdminConnection::new(alloc, stream));
-            }
+            self.admit(alloc, stream, readiness);
         }
         true
     }
 
+    /// Holds a new connection, if its stream does not block and is watched. Another is dropped.
+    #[tactic(auto, using(crate::proofs::Holding::admits_same))]
+    fn admit<R: Readiness<L::Stream>>(
+        &mut self,
+        alloc: Global,
+        stream: L::Stream,
+        readiness: &mut R,
+    )
+        ensures { Admits self.old.connections.items self.new.connections.items }
+    {
+        if stream.set_nonblocking(true).is_ok() && readiness.watch(ADMIN_STREAM, &stream).is_ok() {
+            self.hold(AdminConnection::new(alloc, stream));
+        }
+    }
+
     /// Holds a connection, in place of the oldest if there are as many as may be. Without memory it
     /// is dropped.
-    fn hold(&mut self, connection: AdminConnection<L::Stream>) {
+    fn hold(&mut self, connection: AdminConnection<L::Stream>)
+        ensures { Holds connection self.old.connections.items self.new.connections.items }
+    {
         if self.connections.len() >= MAX_CONNECTIONS {
             let _ = self.connections.remove(0);
         }
@@ -87,25 +124,57 @@ where
     /// for those that ask something of a room, which have their responses once
     /// [`AdminPort::answer_admission`], [`AdminPort::answer_forget`] or [`AdminPort::answer_visit`]
     /// says what came of it.
-    pub fn turn(&mut self, alloc: Global, view: &AdminView<'_>) -> AdminTurn {
+    pub fn turn(&mut self, alloc: Global, view: &AdminView<'_>) -> AdminTurn
+        // Only a request to stop stops, and only a request to open opens.
+        ensures stopping { IsTrue result.is_stopping →
+            SomeAsks L.Stream.remaining Stop self.old.connections.items }
+        ensures opening { IsTrue result.is_opening →
+            SomeAsks L.Stream.remaining Open self.old.connections.items }
+        ensures counters { self.new.counters ≡ self.old.counters }
+    {
+        let was_behind = mem::replace(&mut self.is_behind, false);
+        let mut turn = self.turn_each(alloc, view);
+        turn.has_more = turn.has_more || was_behind;
+        turn
+    }
+
+    /// Gives each connection a turn.
+    fn turn_each(&mut self, alloc: Global, view: &AdminView<'_>) -> AdminTurn
+        ensures stopping { IsTrue result.is_stopping →
+            SomeAsks L.Stream.remaining Stop self.old.connections.items }
+        ensures opening { IsTrue result.is_opening →
+            SomeAsks L.Stream.remaining Open self.old.connections.items }
+        ensures counters { self.new.counters ≡ self.old.counters }
+    {
         let mut turn = AdminTurn {
-            has_more: mem::replace(&mut self.is_behind, false),
+            has_more: false,
             is_opening: false,
             is_stopping: false,
         };
-        let mut index = 0usize;
-        for _ in 0..self.connections.len() {
+        let mut index = 0;
+        for _turn in 0..self.connections.len() {
             let (found, served) = self.turn_at(alloc, index, view);
-            turn.has_more = turn.has_more || found == Found::More;
-            turn.is_opening = turn.is_opening || served == Some(AdminRequest::Open);
-            turn.is_stopping = turn.is_stopping || served == Some(AdminRequest::Stop);
-            if found == Found::Over && index < self.connections.len() {
-                let _ = self.connections.remove(index);
-            } else {
-                index = index.saturating_add(1);
-            }
+            turn.note(found, served);
+            index = self.next_after(index, found);
         }
         turn
+    }
+
+    /// Drops the connection at an index if it is over. Returns the index of the one behind it.
+    #[tactic(auto, using(crate::proofs::Holding::drop_removed))]
+    fn next_after(&mut self, index: usize, found: Found) -> usize
+        requires { index + 1 < 2 ^ 64 }
+        ensures behind { drop result self.new.connections.items
+            ≡ drop (index + 1) self.old.connections.items }
+        ensures next { result ≤ index + 1 }
+        ensures counters { self.new.counters ≡ self.old.counters }
+    {
+        if found == Found::Over && index < self.connections.len() {
+            let _ = self.connections.remove(index);
+            index
+        } else {
+            index + 1
+        }
     }
 
     /// Gives the connection at an index a turn. Returns what it found, and the request that has its
@@ -115,7 +184,11 @@ where
         alloc: Global,
         index: usize,
         view: &AdminView<'_>,
-    ) -> (Found, Option<AdminRequest>) {
+    ) -> (Found, Option<AdminRequest>)
+        ensures asks { AsksAt L.Stream.remaining index result.1 self.old.connections.items }
+        ensures others { OnlyAt index self.old.connections.items self.new.connections.items }
+        ensures counters { self.new.counters ≡ self.old.counters }
+    {
         let Some(connection) = self.connections.get_mut(index) else {
             return (Found::Over, None);
         };
@@ -147,7 +220,11 @@ where
         index: usize,
         asked: &Ask,
         view: &AdminView<'_>,
-    ) -> (Found, Option<AdminRequest>) {
+    ) -> (Found, Option<AdminRequest>)
+        ensures served { IfSome result.1 (λ request. asked.now ≡ Ask.Request request) }
+        ensures others { OnlyAt index self.old.connections.items self.new.connections.items }
+        ensures counters { self.new.counters ≡ self.old.counters }
+    {
         let (served, reply) = match asked {
             Ask::Request(request) => {
                 (Some(*request), view.reply(alloc, &self.counters, *request))

@@ -1,5 +1,9 @@
 //! Readiness by a clock, for a server with or without an admin port. The port's events are kept
 //! from the server's rounds, each round's work is timed, and an event tells of each second.
+ghost use Rattle.std.specs.Duration.{as_nanos};
+ghost use Rattle.std.specs.Prelude.{◌≡◌, ◌/◌, IsErr, true, false};
+ghost use Rattle.relay_operator.specs.Readiness.{MayTellSecond, NoneIsAdmin, has_port, is_admin, is_ready, with_ready, without_admin};
+
 use crate::longest_round::LongestRound;
 use crate::readiness::{Readiness, ReadyEvent};
 use std::io;
@@ -32,6 +36,8 @@ impl<'c, R, C: Clock> AdminReadiness<'c, R, C> {
     pub fn new(inner: R, clock: &'c C) -> AdminReadiness<'c, R, C>
     where
         R: Drop,
+        ensures port { has_port result ≡ true }
+        ensures ready { is_ready result ≡ true }
     {
         AdminReadiness {
             inner,
@@ -48,6 +54,8 @@ impl<'c, R, C: Clock> AdminReadiness<'c, R, C> {
     pub fn without_port(inner: R, clock: &'c C) -> AdminReadiness<'c, R, C>
     where
         R: Drop,
+        ensures port { has_port result ≡ false }
+        ensures ready { is_ready result ≡ false }
     {
         let mut readiness = AdminReadiness::new(inner, clock);
         readiness.has_port = false;
@@ -56,14 +64,19 @@ impl<'c, R, C: Clock> AdminReadiness<'c, R, C> {
     }
 
     /// Whether the admin port may have work. It has none afterwards, until the next event.
-    pub fn take_ready(&mut self) -> bool {
+    pub fn take_ready(&mut self) -> bool
+        ensures was { result ≡ is_ready self.old }
+        ensures taken { self.new ≡ with_ready false self.old }
+    {
         let was = self.is_ready;
         self.is_ready = false;
         was
     }
 
     /// Notes that the admin port left work for the next round.
-    pub fn ready_again(&mut self) {
+    pub fn ready_again(&mut self)
+        ensures { self.new ≡ with_ready true self.old }
+    {
         self.is_ready = true;
     }
 
@@ -78,9 +91,27 @@ impl<'c, R, C: Clock> AdminReadiness<'c, R, C> {
     }
 
     /// Notes how long the server worked since the last wait.
-    fn end_round(&mut self) {
+    fn end_round(&mut self)
+        ensures port { has_port self.new ≡ has_port self.old }
+        ensures ready { is_ready self.new ≡ is_ready self.old }
+    {
         let now = self.now();
         self.longest.note(now, now.saturating_sub(self.began));
+    }
+
+    /// Tells of the second in which the last wait ended, if it is another one than that of the last
+    /// such event. Without memory it is told of after the next wait.
+    fn tell_second(&mut self, events: &mut Vec<ReadyEvent>)
+        ensures port { has_port self.new ≡ has_port self.old }
+        ensures ready { is_ready self.new ≡ is_ready self.old }
+        ensures events { MayTellSecond events.old.items events.new.items }
+        ensures once { as_nanos self.old.began / 1_000_000_000 ≡ self.old.second →
+            events.new.items ≡ events.old.items }
+    {
+        let second = self.began.as_secs();
+        if second != self.second && events.push(ReadyEvent::Second).is_ok() {
+            self.second = second;
+        }
     }
 }
 
@@ -89,25 +120,42 @@ impl<S, R: Readiness<S>, C: Clock> Readiness<S> for AdminReadiness<'_, R, C> {
         self.inner.watch(key, stream)
     }
 
-    fn wait(&mut self, most: Duration, events: &mut Vec<ReadyEvent>) -> io::Result<()> {
+    #[tactic(auto, using(crate::proofs::Events::none_after))]
+    fn wait(&mut self, most: Duration, events: &mut Vec<ReadyEvent>) -> io::Result<()>
+        // No round learns of the port.
+        ensures none { NoneIsAdmin events.new.items }
+        ensures port { has_port self.new ≡ has_port self.old }
+        // Without a port there is no work for it. With one, what was known stays known, and after
+        // an error everything may be ready.
+        ensures no_work { has_port self.old ≡ false → is_ready self.new ≡ false }
+        ensures still { has_port self.old ≡ true → is_ready self.old ≡ true →
+            is_ready self.new ≡ true }
+        ensures failed { has_port self.old ≡ true → IsErr result → is_ready self.new ≡ true }
+    {
         self.end_round();
         let most = if self.is_ready { Duration::ZERO } else { most };
         let told = self.inner.wait(most, events);
         self.began = self.now();
         let all = events.len();
-        events.retain(|event| !is_admin(event));
+        drop_admin(events);
         let may_be_ready = self.is_ready || told.is_err() || events.len() != all;
         self.is_ready = self.has_port && may_be_ready;
-        let second = self.began.as_secs();
-        if second != self.second && events.push(ReadyEvent::Second).is_ok() {
-            self.second = second;
-        }
+        self.tell_second(events);
         told
     }
 }
 
+/// Drops the admin port's events.
+fn drop_admin(events: &mut Vec<ReadyEvent>)
+    ensures { events.new.items ≡ without_admin events.old.items }
+{
+    events.retain(|event| !is_admin(event));
+}
+
 /// Whether an event is the admin port's.
-fn is_admin(event: &ReadyEvent) -> bool {
+fn is_admin(event: &ReadyEvent) -> bool
+    ensures { result ≡ is_admin event.now }
+{
     matches!(
         event,
         ReadyEvent::Stream {

@@ -1,9 +1,20 @@
 //! What an operator sees of a server.
+ghost use Rattle.std.specs.Prelude.{◌≡◌, ◌++◌, ◌∷◌, [], IfOk, OnOk, map, string_bytes};
+ghost use Rattle.json.specs.Lex.{tokens};
+ghost use Rattle.json.specs.Print.{print};
+ghost use Rattle.relay_hub.specs.Summary.{shown_by};
+ghost use Rattle.relay_operator.specs.Counters.{is_short_of_memory};
+ghost use Rattle.relay_operator.specs.Numbers.{AreNumbers, rooms_seen, totals_of, with_room};
+ghost use Rattle.relay_operator.specs.Response.{AnswersHealth, IsResponse};
+ghost use Rattle.relay_operator.specs.Rows.{empty_for, rooms_listed, with_row};
+
 use crate::counters::Counters;
+use json::Writer;
 use relay_admin::{
     AdminRequest, DrawnMessages, Metrics, Response, RoomRow, SnapshotsBy, begin_rooms, end_rooms,
     metrics_text, response_text, wanted_text, write_room,
 };
+use relay_hub::{Hub, RoomSummary, SnapshotCounts};
 use relay_hub::{Hub, SnapshotCounts};
 use relay_limits::MAX_ROOMS;
 use std::alloc::{AllocError, Global};
@@ -48,16 +59,12 @@ impl AdminView<'_> {
         alloc: Global,
         counters: &Counters,
         request: AdminRequest,
-    ) -> Result<String, AllocError> {
+    ) -> Result<String, AllocError>
+        ensures { IfOk result
+            (λ text. IsResponse self.now counters.entry.now request (string_bytes text)) }
+    {
         match request {
-            AdminRequest::Health if self.is_closed => {
-                response_text(alloc, &Response::Unhealthy("closed\n"))
-            }
-            AdminRequest::Health if counters.is_short_of_memory() => response_text(
-                alloc,
-                &Response::Unhealthy("memory was refused within the last minute\n"),
-            ),
-            AdminRequest::Health => response_text(alloc, &Response::Healthy),
+            AdminRequest::Health => response_text(alloc, &self.health(counters)),
             AdminRequest::Open => response_text(alloc, &Response::Opened),
             AdminRequest::Stop => response_text(alloc, &Response::Stopping),
             AdminRequest::Metrics => {
@@ -76,7 +83,23 @@ impl AdminView<'_> {
         }
     }
 
-    fn metrics<'a>(&self, counters: &Counters, refusals: &'a [(&'static str, u64)]) -> Metrics<'a> {
+    /// Whether the relay serves its clients.
+    fn health(&self, counters: &Counters) -> Response<'static>
+        ensures { AnswersHealth self.now.is_closed (is_short_of_memory counters.entry.now) result }
+    {
+        if self.is_closed {
+            return Response::Unhealthy("closed\n");
+        }
+        if counters.is_short_of_memory() {
+            return Response::Unhealthy("memory was refused within the last minute\n");
+        }
+        Response::Healthy
+    }
+
+    /// Its numbers.
+    fn metrics<'a>(&self, counters: &Counters, refusals: &'a [(&'static str, u64)]) -> Metrics<'a>
+        ensures { AreNumbers self.now counters.entry.now result }
+    {
         let totals = self.totals();
         let config = self.hub.config();
         let drawn = self.hub.message_counts();
@@ -118,7 +141,9 @@ impl AdminView<'_> {
         Ok(refusals)
     }
 
-    fn totals(&self) -> Totals {
+    fn totals(&self) -> Totals
+        ensures { result ≡ totals_of (rooms_seen self.now.hub.now) }
+    {
         let mut totals = Totals {
             rooms: 0,
             sessions: 0,
@@ -126,21 +151,19 @@ impl AdminView<'_> {
             weight: 0,
             history: 0,
         };
-        for index in 0..MAX_ROOMS as usize {
+        for index in 0..usize::MAX {
             let Some(room) = self.hub.room_at(index) else {
                 return totals;
             };
-            totals.rooms = totals.rooms.saturating_add(1);
-            totals.sessions = totals.sessions.saturating_add(room.sessions as u64);
-            totals.edits = totals.edits.saturating_add(room.revision);
-            totals.weight = totals.weight.saturating_add(room.weight);
-            totals.history = totals.history.saturating_add(room.history);
+            totals = totals.with(&room);
         }
         totals
     }
 
     /// For how many seconds nobody has been in a room with so many sessions, if nobody is.
-    fn empty_for(&self, index: usize, sessions: usize) -> Option<u64> {
+    fn empty_for(&self, index: usize, sessions: usize) -> Option<u64>
+        ensures { result ≡ empty_for self.now index sessions }
+    {
         if sessions > 0 {
             return None;
         }
@@ -148,22 +171,56 @@ impl AdminView<'_> {
         Some(self.second.saturating_sub(left))
     }
 
-    fn rooms(&self, alloc: Global) -> Result<String, AllocError> {
+    /// The list of rooms.
+    fn rooms(&self, alloc: Global) -> Result<String, AllocError>
+        ensures text { IfOk result (λ text. string_bytes text ≡ print (rooms_listed self.now)) }
+        ensures reads_back { IfOk result
+            (λ text. tokens (string_bytes text) ≡ rooms_listed self.now) }
+    {
         let mut out = begin_rooms(alloc)?;
-        for index in 0..MAX_ROOMS as usize {
+        for index in 0..usize::MAX {
             let Some(room) = self.hub.room_at(index) else {
                 return end_rooms(out);
             };
-            let row = RoomRow {
-                name: room.name,
-                revision: room.revision,
-                sessions: room.sessions as u64,
-                weight: room.weight,
-                empty: self.empty_for(index, room.sessions),
-            };
-            write_room(&mut out, &row)?;
+            self.write_row(&mut out, index, &room)?;
         }
         end_rooms(out)
+    }
+
+    /// Writes the room at an index.
+    fn write_row(
+        &self,
+        out: &mut Writer,
+        index: usize,
+        room: &RoomSummary<'_>,
+    ) -> Result<(), AllocError>
+        ensures tokens { OnOk result
+            (out.new.tokens ≡ with_row self.now index (shown_by room.now) out.old.tokens) }
+        ensures before { out.new.before ≡ out.old.before }
+    {
+        let row = RoomRow {
+            name: room.name,
+            revision: room.revision,
+            sessions: room.sessions as u64,
+            weight: room.weight,
+            empty: self.empty_for(index, room.sessions),
+        };
+        write_room(out, &row)
+    }
+}
+
+impl Totals {
+    /// The same with one more room.
+    fn with(self, room: &RoomSummary<'_>) -> Totals
+        ensures { result ≡ with_room (shown_by room.now) self }
+    {
+        Totals {
+            rooms: self.rooms.saturating_add(1),
+            sessions: self.sessions.saturating_add(room.sessions as u64),
+            edits: self.edits.saturating_add(room.revision),
+            weight: self.weight.saturating_add(room.weight),
+            history: self.history.saturating_add(room.history),
+        }
     }
 }
 

@@ -1,4 +1,7 @@
 //! What is asked of the way into a room, and the response by what came of it.
+ghost use Rattle.std.specs.Prelude.{◌≡◌};
+ghost use Rattle.relay_operator.specs.Admission.{admission_response};
+
 use relay_admin::{Response, Unavailable};
 use relay_link::EntranceFault;
 
@@ -13,7 +16,9 @@ pub enum Admission<'a> {
 
 impl Admission<'_> {
     /// The response, by what came of it.
-    pub(crate) fn response(self, came: Result<(), EntranceFault>) -> Response<'static> {
+    pub(crate) fn response(self, came: Result<(), EntranceFault>) -> Response<'static>
+        ensures { result ≡ admission_response self.entry came }
+    {
         match (came, self) {
             (Ok(()), Admission::Open(_)) => Response::Admitted,
             (Ok(()), Admission::Close(_)) => Response::Excluded,

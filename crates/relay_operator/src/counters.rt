@@ -1,4 +1,7 @@
 //! What an operator is told of a server's log, in numbers.
+ghost use Rattle.std.specs.Prelude.{◌≡◌};
+ghost use Rattle.relay_operator.specs.Counters.{begun, is_short_of_memory, with_shed};
+
 use relay_admin::{EndedBy, RefusedBy};
 use std::time::Duration;
 
@@ -35,18 +38,24 @@ impl Counters {
     }
 
     /// Begins a round at this time.
-    pub fn begin(&mut self, now: Duration) {
+    pub fn begin(&mut self, now: Duration)
+        ensures { self.new ≡ begun now self.old }
+    {
         self.now = now;
     }
 
     /// Counts that memory was refused in the present round.
-    pub fn count_shed(&mut self) {
+    pub fn count_shed(&mut self)
+        ensures { self.new ≡ with_shed self.old }
+    {
         self.shed = self.shed.saturating_add(1);
         self.last_shed = Some(self.now);
     }
 
     /// Whether memory was refused within the last minute.
-    pub(crate) fn is_short_of_memory(&self) -> bool {
+    pub(crate) fn is_short_of_memory(&self) -> bool
+        ensures { result ≡ is_short_of_memory self.entry.now }
+    {
         match self.last_shed {
             Some(then) => self.now.saturating_sub(then).as_secs() < SHORT,
             None => false,

@@ -1,4 +1,8 @@
 //! What is asked of a room, and the response by what came of it.
+ghost use Rattle.std.specs.Prelude.{◌≡◌, IfOk, map, string_bytes};
+ghost use Rattle.relay_operator.specs.RoomRequest.{asked_of_room};
+ghost use Rattle.relay_operator.specs.Visiting.{AnswersTexts, AnswersVisit, IsVisitResponse, PreparesEdit, PreparesRead, Responds, SaysNotJson, forgotten_response, refused_response, revision_named, tag_of};
+
 use relay_access::{Access, is_room_name};
 use relay_admin::{
     Ask, EditRequest, NOT_JSON, NotForgotten, Outcome, PartRequest, Response, RevisionTag,
@@ -25,7 +29,9 @@ pub(crate) enum RoomRequest {
 
 impl RoomRequest {
     /// What is asked of a room. If nothing is, or a name that is none of a room, it is returned.
-    pub(crate) fn of(asked: Ask) -> Result<RoomRequest, Ask> {
+    pub(crate) fn of(asked: Ask) -> Result<RoomRequest, Ask>
+        ensures { result ≡ asked_of_room asked }
+    {
         match asked {
             Ask::Admit(room) if is_room_name(room.as_str()) => Ok(RoomRequest::Open(room)),
             Ask::Exclude(room) => Ok(RoomRequest::Close(room)),
@@ -58,7 +64,9 @@ pub(crate) fn prepare_read(
     alloc: Global,
     hub: &Hub,
     request: &PartRequest,
-) -> Result<Prepared, AllocError> {
+) -> Result<Prepared, AllocError>
+    ensures { IfOk result (PreparesRead hub.now request.now) }
+{
     let Some(room) = hub.room_named(request.room.as_str()) else {
         return respond(alloc, &Response::NoRoom);
     };
@@ -79,11 +87,10 @@ pub(crate) fn prepare_edit(
     hub: &Hub,
     request: &EditRequest,
     body: &[u8],
-) -> Result<Prepared, AllocError> {
-    let revision = hub
-        .room_named(request.room.as_str())
-        .map_or(0, |room| room.revision);
-    let tag = tag_of(hub, revision);
+) -> Result<Prepared, AllocError>
+    ensures { IfOk result (PreparesEdit hub.now request.now body.now) }
+{
+    let tag = tag_of(hub, revision_named(hub, request.room.as_str()));
     if !request.if_match.matches(alloc, tag)? {
         return respond(alloc, &Response::OtherRevision(tag));
     }
@@ -93,15 +100,36 @@ pub(crate) fn prepare_edit(
             access: Access::ReadWrite,
             text: Text::of(text),
         })),
-        None => respond(alloc, &Response::Malformed(NOT_JSON)),
+        None => respond(alloc, &not_json()),
     }
 }
 
-fn respond(alloc: Global, response: &Response<'_>) -> Result<Prepared, AllocError> {
+/// The present revision of a room; 0 of one that is not there.
+fn revision_named(hub: &Hub, room: &str) -> u64
+    ensures { result ≡ revision_named room.now hub.now }
+{
+    match hub.room_named(room) {
+        Some(room) => room.revision,
+        None => 0,
+    }
+}
+
+/// The response to an edit whose body is no JSON.
+fn not_json() -> Response<'static>
+    ensures { SaysNotJson result }
+{
+    Response::Malformed(NOT_JSON)
+}
+
+fn respond(alloc: Global, response: &Response<'_>) -> Result<Prepared, AllocError>
+    ensures { IfOk result (Responds response.now) }
+{
     Ok(Prepared::Response(response_text(alloc, response)?))
 }
 
-fn tag_of(hub: &Hub, rev: u64) -> RevisionTag {
+fn tag_of(hub: &Hub, rev: u64) -> RevisionTag
+    ensures { result ≡ tag_of hub.now rev }
+{
     RevisionTag {
         epoch: hub.config().epoch,
         rev,
@@ -111,25 +139,43 @@ fn tag_of(hub: &Hub, rev: u64) -> RevisionTag {
 /// The response to a request, by the visit that it came to. `AllocError` if there is no memory for
 /// it, or was none for what the hub said of an edit: then nobody knows whether it was made, so
 /// there is no response.
+#[tactic(auto, using(crate::proofs::Visits::is_visit_response))]
 pub(crate) fn visited(
     alloc: Global,
     hub: &Hub,
     request: &RoomRequest,
     visit: &Visit,
-) -> Result<String, AllocError> {
-    let response = match visit.outcome {
-        VisitOutcome::Refused(fault) => refused(fault),
-        VisitOutcome::Unheard(_) => Response::Unavailable(Unavailable::Memory),
-        VisitOutcome::Undrawn(_) => return Err(AllocError),
-        VisitOutcome::Answered(opening) => {
-            answered(hub, request, opening.rev, visit.texts.as_slice())?
-        }
-    };
+) -> Result<String, AllocError>
+    ensures { IfOk result
+        (λ text. IsVisitResponse hub.now request.now visit.now (string_bytes text)) }
+{
+    let response = response_by(hub, request, visit)?;
     response_text(alloc, &response)
 }
 
+/// That response.
+fn response_by<'v>(
+    hub: &Hub,
+    request: &RoomRequest,
+    visit: &'v Visit,
+) -> Result<Response<'v>, AllocError>
+    ensures { IfOk result (AnswersVisit hub.now request.now visit.now.outcome
+        (map string_bytes visit.now.texts.items)) }
+{
+    match visit.outcome {
+        VisitOutcome::Refused(fault) => Ok(refused(fault)),
+        VisitOutcome::Unheard(_) => Ok(Response::Unavailable(Unavailable::Memory)),
+        VisitOutcome::Undrawn(_) => Err(AllocError),
+        VisitOutcome::Answered(opening) => {
+            answered(hub, request, opening.rev, visit.texts.as_slice())
+        }
+    }
+}
+
 /// The response to a request whose session could not be opened.
-fn refused(fault: OpenFault) -> Response<'static> {
+fn refused(fault: OpenFault) -> Response<'static>
+    ensures { result ≡ refused_response fault }
+{
     match fault {
         OpenFault::RoomName => Response::NoRoom,
         OpenFault::RoomsFull => Response::Unavailable(Unavailable::Rooms),
@@ -147,7 +193,10 @@ fn answered<'t>(
     request: &RoomRequest,
     rev: u64,
     texts: &'t [String],
-) -> Result<Response<'t>, AllocError> {
+) -> Result<Response<'t>, AllocError>
+    ensures { IfOk result
+        (AnswersTexts hub.now request.now rev (map string_bytes texts.now)) }
+{
     let (Some(reply), tag) = (texts.get(1), tag_of(hub, rev)) else {
         return Err(AllocError);
     };
@@ -172,7 +221,9 @@ fn answered<'t>(
 }
 
 /// The response to a request to forget a room, by what came of it.
-pub(crate) fn forgotten(came: Result<u64, ForgetFault>) -> Response<'static> {
+pub(crate) fn forgotten(came: Result<u64, ForgetFault>) -> Response<'static>
+    ensures { result ≡ forgotten_response came }
+{
     match came {
         Ok(_) => Response::Forgotten,
         Err(ForgetFault::NoRoom) => Response::NotForgotten(NotForgotten::NoRoom),

@@ -1,0 +1,9 @@
+pub mod Answering
+pub mod Asking
+pub mod Events
+pub mod Holding
+pub mod Moving
+pub mod Responding
+pub mod Rows
+pub mod Seen
+pub mod Visits

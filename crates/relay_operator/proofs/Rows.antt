@@ -1,0 +1,22 @@
+-- The list of rooms while it is written.
+use Rattle.std.proofs.Common.{◌≡◌, ◌≤◌, ◌+◌, ℕ, List, length, drop, slice_get, Some, ap}
+use Rattle.std.proofs.lemmas.List.{drop_all}
+use Rattle.json.specs.Token.{Token}
+use Rattle.relay_hub.specs.Summary.{Summary}
+use Rattle.relay_operator.specs.Rows.{with_row, with_rooms}
+use Rattle.relay_operator.specs.declared.admin_view.AdminView.{AdminView}
+use Rattle.relay_operator.proofs.Seen.{drop_seen}
+
+-- the room at an index, and then those behind it
+pub rows_next : (view : AdminView) (rooms : List Summary) (index : ℕ) (r : Summary)
+    (tokens : List Token) → slice_get rooms index ≡ Some r
+    → with_rooms view index (drop index rooms) tokens
+    ≡ with_rooms view (index + 1) (drop (index + 1) rooms) (with_row view index r tokens)
+rows_next view rooms index r tokens there =
+    ap (λ l. with_rooms view index l tokens) (drop_seen rooms index r there)
+
+-- no room is left
+pub rows_end : (view : AdminView) (rooms : List Summary) (index : ℕ) (tokens : List Token)
+    → length rooms ≤ index → with_rooms view index (drop index rooms) tokens ≡ tokens
+rows_end view rooms index tokens past =
+    ap (λ l. with_rooms view index l tokens) (drop_all index rooms past)

@@ -1,0 +1,10 @@
+pub mod Counters
+pub mod Readiness
+pub mod Connection
+pub mod RoomRequest
+pub mod Visiting
+pub mod Admission
+pub mod Numbers
+pub mod Rows
+pub mod Response
+pub mod Port
