@@ -171,10 +171,20 @@ impl<S: Read> Read for NonBlocking<S> {
 }
 
 impl<S: Write> Write for NonBlocking<S> {
+    ghost use Rattle.std.specs.Prelude.{is_err};
+    ghost use Rattle.std.specs.Io.{WritesAtMost};
+    ghost use Rattle.std.specs.Io.KnownBytes.{Keeps, WriteAppends};
+
     ghost contents = { λ n. S.contents n.stream };
 
-    fn write(&mut self, buf: &[u8]) -> io::Result<usize> {
+    fn write(&mut self, buf: &[u8]) -> io::Result<usize>
+        ensures bound { WritesAtMost result buf.now }
+        ensures bytes { WriteAppends (S.contents self.old.stream) (S.contents self.new.stream)
+            result buf.now }
+        ensures blocked { self.new.blocked ≡ is_err result }
+    {
         if self.broken {
+            self.blocked = true;
             self.failed = true;
             return Err(Error::from(ErrorKind::BrokenPipe));
         }
@@ -185,7 +195,10 @@ impl<S: Write> Write for NonBlocking<S> {
         noted
     }
 
-    fn flush(&mut self) -> io::Result<()> {
+    fn flush(&mut self) -> io::Result<()>
+        ensures bytes { Keeps (S.contents self.old.stream) (S.contents self.new.stream) }
+        ensures blocked { self.new.blocked ≡ is_err result }
+    {
         let flushed = self.stream.flush();
         self.noted_output(flushed)
     }
