@@ -30,11 +30,12 @@ pub enum ServeFault {
 }
 
 impl ServeFault {
-    ghost use Rattle.relay_loopback.specs.Faults.{IsListen};
+    ghost use Rattle.std.specs.Prelude.{◌≡◌};
+    ghost use Rattle.std.specs.IoError.{raw_os_error};
 
     /// The fault of an address that cannot be opened for this reason.
     pub fn listen(address: SocketAddr, error: &io::Error) -> ServeFault
-        ensures { IsListen result }
+        ensures { result ≡ ServeFault.Listen address (raw_os_error error.now) }
     {
         ServeFault::Listen {
             address,

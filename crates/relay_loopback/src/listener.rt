@@ -32,6 +32,7 @@ impl<'n, N: Net> LoopbackListener<'n, N> {
     ghost use Rattle.relay_loopback.specs.Faults.{IsListen};
 
     /// Opens a listener at a port that the system chooses.
+    #[tactic(auto, using(crate::proofs::Listening::is_listen))]
     pub fn new(net: &'n N) -> Result<LoopbackListener<'n, N>, ServeFault>
         ensures { IfErr result IsListen }
     {

@@ -1,8 +1,7 @@
 //! The listener that every job with sockets uses.
 ghost use Rattle.std.specs.Prelude.{◌≡◌, IfErr};
-ghost use Rattle.std.specs.Net.Addr.{IsLoopbackV4, IsLoopbackV6, MatchIp};
 ghost use Rattle.std.specs.Net.Socket.{socket_ip, socket_port};
-ghost use Rattle.relay_loopback.specs.Faults.{IsListen};
+ghost use Rattle.relay_loopback.specs.Faults.{IsListenAt};
 
 use crate::fault::ServeFault;
 use std::net::{IpAddr, Ipv4Addr, Net, OpenListener, SocketAddr};
@@ -13,7 +12,7 @@ use std::net::{IpAddr, Ipv4Addr, Net, OpenListener, SocketAddr};
 /// assert!(rt; loopback_at(8_080) == SocketAddr::from((Ipv4Addr::LOCALHOST, 8_080)));
 /// ```
 pub fn loopback_at(port: u16) -> SocketAddr
-    ensures ip { MatchIp (socket_ip result) IsLoopbackV4 IsLoopbackV6 }
+    ensures ip { socket_ip result ≡ IpAddr.V4 Ipv4Addr.LOCALHOST }
     ensures port { socket_port result ≡ port }
 {
     SocketAddr::new(IpAddr::V4(Ipv4Addr::LOCALHOST), port)
@@ -23,7 +22,7 @@ pub fn loopback_at(port: u16) -> SocketAddr
 /// [`ServeFault::Listen`] if the address cannot be bound, or the listener not be made non-blocking;
 /// nothing is open then.
 pub fn listen<N: Net>(net: &N, address: SocketAddr) -> Result<N::Listener, ServeFault>
-    ensures { IfErr result IsListen }
+    ensures { IfErr result (IsListenAt address) }
 {
     let listener = match net.bind(address) {
         Ok(listener) => listener,
