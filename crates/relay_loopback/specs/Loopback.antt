@@ -1,4 +1,5 @@
--- The outcomes that loopback sockets can give for an event of a script.
+-- The outcomes that loopback sockets can give for an event of a script, and what the hub behind them
+-- tells.
 use Rattle.std.specs.Prelude.{◌≡◌, ⊤, ℕ, List, []}
 use Rattle.relay_hub.specs.declared.event.Answer.TheVariants as answer
 use Rattle.relay_hub.specs.declared.event.Event.{Event}
@@ -8,6 +9,7 @@ use Rattle.relay_hub.specs.State.{State}
 use Rattle.relay_loopback.specs.declared.loopback.Loopback.{Loopback}
 use Rattle.relay_script.specs.Script as script
 use Rattle.relay_script.specs.Script.{Stage, stage}
+use Rattle.relay_script.specs.Transport.{Transporting, Telling, HubComes, HubTells}
 use Rattle.relay_script.specs.declared.outcome.Outcome.{Outcome}
 use Rattle.relay_script.specs.declared.outcome.Outcome.TheVariants as outcome
 
@@ -31,6 +33,16 @@ CanCome DoWill outcome.NoMemory = ⊤
 CanCome event (outcome.Answered answer.NoSession) = ⊤
 CanCome event outcome.Stuck = ⊤
 CanCome event came = ⊥
+
+-- What comes of an event, from the sockets and the hub before it to those after it. A will is a step
+-- of the hub itself.
+abbrev pub Comes : {N L S : Type 0} → Transporting (Loopback N L S)
+Comes old DoWill came new = HubComes (hub_of old) DoWill came (hub_of new)
+Comes old event came new = CanCome event came
+
+-- what a session should hold, by the hub
+abbrev pub Tells : {N L S : Type 0} → Telling (Loopback N L S)
+Tells loopback s shown = HubTells (hub_of loopback) s shown
 
 -- the answers to a script whose events have any of the outcomes that sockets can give
 abbrev pub LoopbackAnswers : Stage ⊤ → ℕ → List ℕ → Stage ⊤ → List ℕ → Type 0
