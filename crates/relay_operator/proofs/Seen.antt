@@ -66,11 +66,10 @@ length_next rooms index r there =
     let within = slice_get_within rooms index r there in
     omega (arith, within, length-take (index + 1) rooms, length-take index rooms)
 
-totals_by : ℕ → ℕ → ℕ → ℕ → ℕ → Totals
-totals_by rooms sessions edits weight history = record {
+totals_by : ℕ → ℕ → ℕ → ℕ → Totals
+totals_by rooms sessions weight history = record {
   rooms = rooms;
   sessions = sessions;
-  edits = edits;
   weight = weight;
   history = history;
 }
@@ -83,9 +82,8 @@ unfolding totals_by
 totals_next rooms index r there =
     let a = length_next rooms index r there in
     let b = sum_next rooms index r (λ x. x.sessions) there in
-    let c = sum_next rooms index r (λ x. x.revision) there in
-    let d = sum_next rooms index r (λ x. x.weight) there in
-    let e = sum_next rooms index r (λ x. x.history) there in
+    let c = sum_next rooms index r (λ x. x.weight) there in
+    let d = sum_next rooms index r (λ x. x.history) there in
     cc
 
 -- the totals once no room is left

@@ -1,6 +1,7 @@
 -- The numbers that an operator sees of a server: those of its hub, and those of its view.
 use Rattle.std.specs.Prelude.{◌≡◌, ℕ, ◌+◌, ◌-◌, ◌^◌, List, length, map, sum_by, take}
 use Rattle.relay_admin.specs.declared.metrics.Metrics.{Metrics}
+use Rattle.relay_hub.specs.Queries.{rooms_weight}
 use Rattle.relay_hub.specs.State.{State}
 use Rattle.relay_hub.specs.Summary.{Summary, summary_of}
 use Rattle.relay_tree.specs.Document.{saturated}
@@ -22,7 +23,6 @@ abbrev pub totals_of : List Summary → Totals
 totals_of rooms = record {
   rooms = saturated (length rooms);
   sessions = sum_over rooms (λ r. r.sessions);
-  edits = sum_over rooms (λ r. r.revision);
   weight = sum_over rooms (λ r. r.weight);
   history = sum_over rooms (λ r. r.history);
 }
@@ -32,20 +32,20 @@ abbrev pub with_room : Summary → Totals → Totals
 with_room room totals = record {
   rooms = saturated (totals.rooms + 1);
   sessions = saturated (totals.sessions + room.sessions);
-  edits = saturated (totals.edits + room.revision);
   weight = saturated (totals.weight + room.weight);
   history = saturated (totals.history + room.history);
 }
 
--- The numbers of a view. Of the messages that were drawn, of what waits and of what the work cost,
--- no contract of the hub speaks.
+-- The numbers of a view. Of the edits that were accepted, of the messages that were drawn and of
+-- what the work cost, no contract of the hub speaks.
 pub record AreNumbers (view : AdminView) (counters : Counters) (m : Metrics) : Type 0 where
   -- the hub's rooms
   pub rooms : m.rooms ≡ saturated (length (rooms_seen view.hub.now))
   pub sessions : m.sessions ≡ sum_over (rooms_seen view.hub.now) (λ r. r.sessions)
-  pub edits : m.edits ≡ sum_over (rooms_seen view.hub.now) (λ r. r.revision)
   pub weight : m.weight ≡ sum_over (rooms_seen view.hub.now) (λ r. r.weight)
   pub history_weight : m.history_weight ≡ sum_over (rooms_seen view.hub.now) (λ r. r.history)
+  -- what waits for its sessions
+  pub waiting_weight : m.waiting_weight ≡ saturated (rooms_weight view.hub.now.rooms)
   -- its limits
   pub max_rooms : m.max_rooms ≡ view.hub.now.config.rooms
   pub max_sessions : m.max_sessions ≡ view.hub.now.config.sessions

@@ -15,8 +15,6 @@ use relay_admin::{
     metrics_text, response_text, wanted_text, write_room,
 };
 use relay_hub::{Hub, RoomSummary, SnapshotCounts};
-use relay_hub::{Hub, SnapshotCounts};
-use relay_limits::MAX_ROOMS;
 use std::alloc::{AllocError, Global};
 
 /// A hub, which no request changes through this view, and the numbers of its server.
@@ -47,7 +45,6 @@ pub struct AdminView<'v> {
 struct Totals {
     rooms: u64,
     sessions: u64,
-    edits: u64,
     weight: u64,
     history: u64,
 }
@@ -110,7 +107,7 @@ impl AdminView<'_> {
             max_sessions: config.sessions,
             connections: self.connections,
             max_connections: self.max_connections,
-            edits: totals.edits,
+            edits: self.hub.edits(),
             wills: self.wills,
             weight: totals.weight,
             history_weight: totals.history,
@@ -147,7 +144,6 @@ impl AdminView<'_> {
         let mut totals = Totals {
             rooms: 0,
             sessions: 0,
-            edits: 0,
             weight: 0,
             history: 0,
         };
@@ -217,7 +213,6 @@ impl Totals {
         Totals {
             rooms: self.rooms.saturating_add(1),
             sessions: self.sessions.saturating_add(room.sessions as u64),
-            edits: self.edits.saturating_add(room.revision),
             weight: self.weight.saturating_add(room.weight),
             history: self.history.saturating_add(room.history),
         }
