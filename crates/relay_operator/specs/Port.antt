@@ -1,5 +1,7 @@
 -- The connections to the admin port.
-use Rattle.std.specs.Prelude.{◌≡◌, ◌⊎◌, ⊤, ℕ, ◌+◌, nat_lt, Bool, true, false, ◌||◌, if◌then◌else◌, List, [], ◌∷◌, ◌++◌, Any, length, take, drop, slice_get, Option, Some, None}
+use Rattle.std.specs.Prelude.{◌≡◌, ◌⊎◌, ⊤, ℕ, ◌+◌, nat_lt, Bool, true, false, ◌||◌, if◌then◌else◌, List, [], ◌∷◌, ◌++◌, Any, length, take, drop, slice_get, string_bytes, Option, Some, None}
+use Rattle.std.specs.declared.alloc.Global.{Global}
+use Rattle.std.specs.declared.string.String.{String}
 use Rattle.std.specs.Io.KnownBytes.{Consumes}
 use Rattle.httparse.specs.Grammar.{RequestHead, ReadsRequest, HasNoRequest}
 use Rattle.relay_admin.specs.Admitted.{IsAdmitted}
@@ -7,7 +9,7 @@ use Rattle.relay_admin.specs.Route.{request}
 use Rattle.relay_admin.specs.Verdict.{window}
 use Rattle.relay_admin.specs.declared.request.AdminRequest.{AdminRequest}
 use Rattle.relay_admin.specs.declared.request.AdminRequest.TheVariants.{Open, Stop}
-use Rattle.relay_operator.specs.Connection.{IsFresh}
+use Rattle.relay_operator.specs.Connection.{IsFresh, Tells, answered}
 use Rattle.relay_operator.specs.declared.admin_connection.Found.{Found}
 use Rattle.relay_operator.specs.declared.admin_connection.Found.TheVariants.{More}
 use Rattle.relay_operator.specs.declared.admin_port.AdminTurn.{AdminTurn}
@@ -68,6 +70,17 @@ module _ {S : Type 0} where
     pub many : length new ≡ length old
     pub before : take index new ≡ take index old
     pub behind : drop (index + 1) new ≡ drop (index + 1) old
+
+  -- the connection at an index got a response whose text is as this says, and was sent a part of it
+  pub record Answered (contents : S → Option (List ℕ)) (index : ℕ) (Says : List ℕ → Type 0)
+      (old new : List (AdminConnection S)) : Type 0 where
+    pub asker : AdminConnection S
+    pub there : slice_get old index ≡ Some asker
+    pub reply : String Global
+    pub says : Says (string_bytes reply)
+    pub told : AdminConnection S
+    pub at : slice_get new index ≡ Some told
+    pub tells : Tells contents (answered reply asker) told
 
   -- a place for one more connection: the oldest is gone if there are as many as may be
   abbrev pub with_place : List (AdminConnection S) → List (AdminConnection S)

@@ -1,6 +1,6 @@
 //! The port of a server at which an operator asks how it is, reads, edits and forgets rooms, lets
 //! clients in, and stops it.
-ghost use Rattle.std.specs.Prelude.{◌≡◌, ◌<◌, ◌≤◌, ◌+◌, ◌^◌, IfSome, IsTrue, drop, vec_len};
+ghost use Rattle.std.specs.Prelude.{◌≡◌, ◌<◌, ◌≤◌, ◌+◌, ◌^◌, ◌⊎◌, IfSome, IsTrue, [], drop, vec_len};
 ghost use Rattle.relay_admin.specs.declared.request.AdminRequest.TheVariants.{Open, Stop};
 ghost use Rattle.relay_operator.specs.declared.admin_port.TheConstants.{MAX_CONNECTIONS};
 
@@ -11,7 +11,7 @@ use crate::admission::Admission;
 use crate::counters::Counters;
 use crate::readiness::Readiness;
 use crate::room_request::{self, Prepared, RoomRequest, RoomVisit};
-use relay_admin::{AdminRequest, Ask, Response, response_text};
+use relay_admin::{AdminRequest, Ask, response_text};
 use relay_hub::{ForgetFault, Hub};
 use relay_link::{EntranceFault, Visit};
 use std::alloc::{AllocError, Global};
@@ -68,6 +68,7 @@ where
     pub fn new(alloc: Global, listener: L) -> AdminPort<L>
     where
         L: Drop,
+        ensures { result.connections.items ≡ [] }
     {
         AdminPort {
             listener,
@@ -77,7 +78,8 @@ where
         }
     }
 
-    ghost use Rattle.relay_operator.specs.Port.{Admits, AsksAt, Holds, OnlyAt, SomeAsks};
+    ghost use Rattle.relay_operator.specs.Response.{AnswersAsk};
+    ghost use Rattle.relay_operator.specs.Port.{Admits, Answered, AsksAt, Holds, OnlyAt, SomeAsks};
 
     /// Accepts connections that wait, at most as many as may be held. Returns whether more may
     /// wait. A connection that cannot be held is dropped.
@@ -222,16 +224,17 @@ where
         view: &AdminView<'_>,
     ) -> (Found, Option<AdminRequest>)
         ensures served { IfSome result.1 (λ request. asked.now ≡ Ask.Request request) }
+        ensures responds { (result ≡ (Found.Over, None)) ⊎ Answered L.Stream.contents index
+            (AnswersAsk view.now self.old.counters asked.now)
+            self.old.connections.items self.new.connections.items }
         ensures others { OnlyAt index self.old.connections.items self.new.connections.items }
         ensures counters { self.new.counters ≡ self.old.counters }
     {
-        let (served, reply) = match asked {
-            Ask::Request(request) => {
-                (Some(*request), view.reply(alloc, &self.counters, *request))
-            }
-            Ask::Refused(refusal) => (None, response_text(alloc, &Response::Refused(*refusal))),
-            _ => (None, response_text(alloc, &Response::NoRoom)),
+        let served = match asked {
+            Ask::Request(request) => Some(*request),
+            _ => None,
         };
+        let reply = view.answer(alloc, &self.counters, asked);
         match (self.connections.get_mut(index), reply) {
             (Some(connection), Ok(reply)) => {
                 connection.answer(reply);

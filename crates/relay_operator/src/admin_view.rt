@@ -5,14 +5,14 @@ ghost use Rattle.json.specs.Print.{print};
 ghost use Rattle.relay_hub.specs.Summary.{shown_by};
 ghost use Rattle.relay_operator.specs.Counters.{is_short_of_memory};
 ghost use Rattle.relay_operator.specs.Numbers.{AreNumbers, rooms_seen, totals_of, with_room};
-ghost use Rattle.relay_operator.specs.Response.{AnswersHealth, IsResponse};
+ghost use Rattle.relay_operator.specs.Response.{AnswersAsk, AnswersHealth, IsResponse};
 ghost use Rattle.relay_operator.specs.Rows.{empty_for, rooms_listed, with_row};
 
 use crate::counters::Counters;
 use json::Writer;
 use relay_admin::{
-    AdminRequest, DrawnMessages, Metrics, Response, RoomRow, SnapshotsBy, begin_rooms, end_rooms,
-    metrics_text, response_text, wanted_text, write_room,
+    AdminRequest, Ask, DrawnMessages, Metrics, Response, RoomRow, SnapshotsBy, begin_rooms,
+    end_rooms, metrics_text, response_text, wanted_text, write_room,
 };
 use relay_hub::{Hub, RoomSummary, SnapshotCounts};
 use std::alloc::{AllocError, Global};
@@ -50,8 +50,25 @@ struct Totals {
 }
 
 impl AdminView<'_> {
+    /// The response to an answer that asks nothing of a room.
+    pub(crate) fn answer(
+        &self,
+        alloc: Global,
+        counters: &Counters,
+        asked: &Ask,
+    ) -> Result<String, AllocError>
+        ensures { IfOk result
+            (λ text. AnswersAsk self.now counters.entry.now asked.now (string_bytes text)) }
+    {
+        match asked {
+            Ask::Request(request) => self.reply(alloc, counters, *request),
+            Ask::Refused(refusal) => response_text(alloc, &Response::Refused(*refusal)),
+            _ => response_text(alloc, &Response::NoRoom),
+        }
+    }
+
     /// The response to a request.
-    pub(crate) fn reply(
+    fn reply(
         &self,
         alloc: Global,
         counters: &Counters,
