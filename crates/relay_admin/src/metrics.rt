@@ -41,11 +41,6 @@ pub struct Metrics<'a> {
 }
 
 /// How many handshakes were refused, by the status.
-///
-/// ```
-/// let refused = RefusedBy { not_found: 2, ..RefusedBy::default() };
-/// assert!(rt; refused.not_found == 2 && refused.unavailable == 0);
-/// ```
 #[derive(Clone, Copy, Debug, Default, PartialEq, Eq)]
 pub struct RefusedBy {
     /// 400

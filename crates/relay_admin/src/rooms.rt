@@ -9,6 +9,14 @@ use json::Writer;
 use std::alloc::{AllocError, Global};
 
 /// What is said of a room.
+///
+/// ```
+/// let mut out = begin_rooms(alloc).ok()?;
+/// let room = RoomRow { name: "r", revision: 0, sessions: 0, weight: 8, empty: Some(60) };
+/// write_room(&mut out, &room).ok()?;
+/// let wanted = r#"[{"name":"r","revision":0,"sessions":0,"weight":8,"empty":60}]"#;
+/// assert!(rt; end_rooms(out).ok()?.as_str() == wanted);
+/// ```
 #[derive(Clone, Copy, Debug)]
 pub struct RoomRow<'a> {
     pub name: &'a str,
@@ -20,6 +28,10 @@ pub struct RoomRow<'a> {
 }
 
 /// Begins a list of rooms. If memory runs out, it returns `AllocError` and leaves nothing behind.
+///
+/// ```
+/// assert!(rt; end_rooms(begin_rooms(alloc).ok()?).ok()?.as_str() == "[]");
+/// ```
 pub fn begin_rooms(alloc: Global) -> Result<Writer, AllocError>
     ensures before { IfOk result (λ out. out.before ≡ []) }
     ensures tokens { IfOk result (λ out. out.tokens ≡ begun) }
@@ -30,6 +42,14 @@ pub fn begin_rooms(alloc: Global) -> Result<Writer, AllocError>
 }
 
 /// Adds a room to a list. If memory runs out, some of the room's tokens may already be written.
+///
+/// ```
+/// let mut out = begin_rooms(alloc).ok()?;
+/// let room = RoomRow { name: "r", revision: 0, sessions: 2, weight: 8, empty: None };
+/// write_room(&mut out, &room).ok()?;
+/// let wanted = r#"[{"name":"r","revision":0,"sessions":2,"weight":8}]"#;
+/// assert!(rt; end_rooms(out).ok()?.as_str() == wanted);
+/// ```
 pub fn write_room(out: &mut Writer, room: &RoomRow<'_>) -> Result<(), AllocError>
     ensures tokens { OnOk result (out.new.tokens
         ≡ with_room room.now.name.now room.now.revision room.now.sessions room.now.weight

@@ -69,8 +69,7 @@ pub fn apply(
     }
 }
 
-/// The result of a patch on a document whose weight the caller keeps.
-/// See [`apply_within`].
+/// The result of a patch on a document whose weight the caller keeps. See [`apply_within`].
 #[derive(Drop)]
 pub struct Applied {
     pub changes: Vec<Change>,

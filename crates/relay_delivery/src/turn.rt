@@ -22,9 +22,8 @@ use std::io::{Read, Write};
 /// let mut link = Link::new(alloc, End { wire: &wire }).ok()?;
 /// wire.try_borrow_mut().ok()?.perform(alloc, "asks 13 /rooms/a").ok()?;
 /// link.read_turn(alloc, &Entrance::Open, &mut hub, MAX_DRAWS).ok()?;
-/// let turn = write_turn(alloc, &mut link, &mut hub, MAX_DRAWS).ok()?;
-/// // The welcome.
-/// assert!(rt; turn.has_drawn());
+/// // The turn draws the welcome.
+/// write_turn(alloc, &mut link, &mut hub, MAX_DRAWS).ok()?;
 /// assert!(rt; wire.try_borrow_mut().ok()?.output.as_slice().ends_with(b"\"session\":1}"));
 /// ```
 pub fn write_turn<S: Read + Write + Drop>(

@@ -2,8 +2,7 @@
 use std::alloc::Global;
 
 /// The sessions whose outboxes a text or a will may have changed, besides that of the session that
-/// sent the text.
-/// See [`Hub::told`](crate::Hub::told).
+/// sent the text. See [`Hub::told`](crate::Hub::told).
 #[derive(Drop)]
 pub struct Told {
     /// Their numbers, in ascending order, each once.

@@ -14,6 +14,13 @@ impl MaskKeys for LoopKeys {
 }
 
 /// A client whose handshake was accepted.
+///
+/// ```
+/// let wire = Wire::new(alloc);
+/// let mut client = Client::of(alloc, End { wire: &wire }, Vec::new(alloc));
+/// wire.try_borrow_mut().ok()?.feed(b"\x81\x05Hello").ok()?;
+/// assert!(rt; client.text()?.as_str() == "Hello" && client.text().is_none());
+/// ```
 #[derive(Drop)]
 pub struct Client<S> {
     socket: WebSocket<S, LoopKeys>,
@@ -36,6 +43,14 @@ impl<S: Read + Write + Drop> Client<S> {
 
     /// Sends a text. [`Client::send_rest`] sends what the stream does not accept now. After
     /// `AllocError` nothing was sent. Other errors are ignored.
+    ///
+    /// ```
+    /// let wire = Wire::new(alloc);
+    /// let mut client = Client::of(alloc, End { wire: &wire }, Vec::new(alloc));
+    /// client.send(alloc, "Hello").ok()?;
+    /// // A text of five bytes, masked (RFC 6455, section 5.2).
+    /// assert!(rt; wire.try_borrow_mut().ok()?.output.as_slice().starts_with(b"\x81\x85"));
+    /// ```
     pub fn send(&mut self, alloc: Global, text: &str) -> Result<(), AllocError> {
         let _ = self.socket.send(Message::text(alloc, text)?);
         Ok(())
@@ -55,6 +70,14 @@ impl<S: Read + Write + Drop> Client<S> {
     }
 
     /// Sends a close frame with 1000.
+    ///
+    /// ```
+    /// let wire = Wire::new(alloc);
+    /// let mut client = Client::of(alloc, End { wire: &wire }, Vec::new(alloc));
+    /// client.close();
+    /// // A close frame with a code, masked (RFC 6455, section 5.5.1).
+    /// assert!(rt; wire.try_borrow_mut().ok()?.output.as_slice().starts_with(b"\x88\x82"));
+    /// ```
     pub fn close(&mut self) {
         let reason = Utf8Bytes::new();
         let code = CloseCode::Normal;

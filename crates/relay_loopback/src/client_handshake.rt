@@ -11,6 +11,16 @@ use std::str;
 const MAX_READ: usize = 1_024;
 
 /// A client that has sent its handshake and waits for the reply.
+///
+/// ```
+/// let wire = Wire::new(alloc);
+/// let end = End { wire: &wire };
+/// let mut handshake = ClientHandshake::at(alloc, end, "board", Access::ReadWrite).ok()??;
+/// wire.try_borrow_mut().ok()?.perform(alloc, "line HTTP/1.1 404 Not Found").ok()?;
+/// assert!(rt; handshake.status() == None);
+/// wire.try_borrow_mut().ok()?.perform(alloc, "line ").ok()?;
+/// assert!(rt; handshake.status() == Some(404));
+/// ```
 #[derive(Drop)]
 pub struct ClientHandshake<S> {
     stream: S,
@@ -21,6 +31,15 @@ pub struct ClientHandshake<S> {
 impl<S: Read + Write + Drop> ClientHandshake<S> {
     /// Sends the request for a room, with this access. `None` if it cannot be sent. After
     /// `AllocError` nothing was sent.
+    ///
+    /// ```
+    /// let wire = Wire::new(alloc);
+    /// let end = End { wire: &wire };
+    /// let handshake = ClientHandshake::at(alloc, end, "board", Access::ReadOnly).ok()?;
+    /// let sent = &wire.try_borrow_mut().ok()?.output;
+    /// assert!(rt; handshake.is_some());
+    /// assert!(rt; sent.as_slice().starts_with(b"GET /rooms/board/watch HTTP/1.1\r\n"));
+    /// ```
     pub fn at(
         alloc: Global,
         mut stream: S,
@@ -40,6 +59,14 @@ impl<S: Read + Write + Drop> ClientHandshake<S> {
 
     /// Reads once, and returns the status of the reply once its head is complete. If it is out of
     /// memory nothing is read, and the next call tries again.
+    ///
+    /// ```
+    /// let wire = Wire::new(alloc);
+    /// let end = End { wire: &wire };
+    /// let mut handshake = ClientHandshake::at(alloc, end, "board", Access::ReadWrite).ok()??;
+    /// wire.try_borrow_mut().ok()?.feed(b"HTTP/1.1 503 Service Unavailable\r\n\r\n").ok()?;
+    /// assert!(rt; handshake.status() == Some(503));
+    /// ```
     pub fn status(&mut self) -> Option<u16> {
         self.reply.reserve(MAX_READ).ok()?;
         let mut part = [0; MAX_READ];
@@ -53,6 +80,17 @@ impl<S: Read + Write + Drop> ClientHandshake<S> {
 
     /// The client, once its handshake was accepted. The bytes after the reply's head are its first
     /// messages.
+    ///
+    /// ```
+    /// let wire = Wire::new(alloc);
+    /// let end = End { wire: &wire };
+    /// let mut handshake = ClientHandshake::at(alloc, end, "board", Access::ReadWrite).ok()??;
+    /// // Behind the reply comes the text of RFC 6455, section 5.7.
+    /// let bytes = b"HTTP/1.1 101 Switching Protocols\r\n\r\n\x81\x05Hello";
+    /// wire.try_borrow_mut().ok()?.feed(bytes).ok()?;
+    /// assert!(rt; handshake.status() == Some(101));
+    /// assert!(rt; handshake.client(alloc).text()?.as_str() == "Hello");
+    /// ```
     pub fn client(self, alloc: Global) -> Client<S> {
         let ClientHandshake { stream, mut reply } = self;
         if let Some(len) = head_len(reply.as_slice()) {
