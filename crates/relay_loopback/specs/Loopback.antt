@@ -1,5 +1,5 @@
--- The outcomes that loopback sockets can give for an event of a script, and what the hub behind them
--- tells.
+-- The outcomes that loopback sockets can give for an event of a script, and what the hub behind
+-- them tells.
 use Rattle.std.specs.Prelude.{◌≡◌, ⊤, ℕ, List, []}
 use Rattle.relay_hub.specs.declared.event.Answer.TheVariants as answer
 use Rattle.relay_hub.specs.declared.event.Event.{Event}
@@ -34,8 +34,8 @@ CanCome event (outcome.Answered answer.NoSession) = ⊤
 CanCome event outcome.Stuck = ⊤
 CanCome event came = ⊥
 
--- What comes of an event, from the sockets and the hub before it to those after it. A will is a step
--- of the hub itself.
+-- What comes of an event, from the sockets and the hub before it to those after it. A will is a
+-- step of the hub itself.
 abbrev pub Comes : {N L S : Type 0} → Transporting (Loopback N L S)
 Comes old DoWill came new = HubComes (hub_of old) DoWill came (hub_of new)
 Comes old event came new = CanCome event came
