@@ -27,7 +27,7 @@ use Rattle.relay_link.specs.declared.state.State.{State as Link}
 use Rattle.relay_link.specs.declared.state.State.TheVariants.{Head, Replying, Open, Closing, Gone}
 use Rattle.relay_link.specs.declared.visit.Visit.{Visit}
 use Rattle.relay_access.specs.declared.access.Access.{Access}
-use Rattle.relay_event_loop.specs.Advances.{Links, IsNew, links_of, Advances, stays, turns, adds, removes, visits, sheds, acts, IsOfHouse}
+use Rattle.relay_event_loop.specs.Advances.{Links, IsNew, links_of, sessions_in, Advances, stays, turns, adds, removes, visits, sheds, acts, IsOfHouse}
 use Rattle.relay_link.proofs.Sending.{Framed, sending_by, gone_framed, gone_replies}
 use Rattle.relay_event_loop.specs.declared.connection.Connection.{Connection}
 use Rattle.relay_event_loop.specs.declared.ready.TrackedStream.{TrackedStream}
@@ -54,6 +54,12 @@ gone_receives remaining old (Replying stream reply) is = tt
 gone_receives remaining old (Open socket s) is = tt
 gone_receives remaining old (Closing socket left) is = tt
 gone_receives remaining old Gone is = tt
+
+-- A session that was found for a connection is that of its link.
+pub gains_own : {S : Type 0} (held : Slab (Connection S)) (key s : ℕ) (c : Connection S)
+    → get held key ≡ Some c → session_of c.link ≡ Some s
+    → sessions_in (links_of held) key ≡ Some s
+gains_own held key s c there has = rw there has
 
 -- A link on a stream that was just given has received nothing.
 pub new_of : {S : Type 0} (given : S) (link : Link S) → IsFresh given link → IsNew link

@@ -3,3 +3,4 @@ pub mod Ready
 pub mod Advances
 pub mod Rounds
 pub mod Visited
+pub mod Index

@@ -1,12 +1,15 @@
 //! How connections end: what is said of them in the log, and what gives memory back.
-ghost use Rattle.std.specs.Prelude.{◌≡◌, ◌≤◌};
+ghost use Rattle.std.specs.Prelude.{◌≡◌, ◌≤◌, ◌⊎◌, ℕ, Some, nat_eq};
+ghost use Rattle.indexmap.specs.IndexMap.{get};
 ghost use Rattle.relay_event_loop.specs.Advances.{KeepsFewer};
 ghost use Rattle.relay_event_loop.specs.Connections.{connections_of, limit_of, made_by};
+ghost use Rattle.relay_event_loop.specs.Index.{GainsOwn};
 ghost use Rattle.relay_event_loop.specs.Rounds.{RoundsOf};
 
 use super::Server;
 use super::queueing::uncount_writer;
 use crate::connection_log::{ConnectionLog, LogEntry};
+use indexmap::IndexMap;
 use relay_hub::{Event, OpenFault};
 use relay_link::{DrawStop, EndCause, Stage, Turn};
 use relay_operator::Readiness;
@@ -201,18 +204,17 @@ impl<S: Read + Write + OpenStream + Drop, R: Readiness<S>> Server<S, R> {
         self.vacancies.is_check_due = true;
     }
 
-    /// Puts the session of a connection into the map, if it has one, for which there is memory.
+    /// Puts the session of a connection into the index, if it has one, for which there is memory.
     /// Takes the memory for what is kept of its room; returns whether there was some.
-    #[tactic(auto, using(crate::proofs::Rules::advances))]
+    #[tactic(auto, using(crate::proofs::Rules::advances, crate::proofs::Held::gains_own))]
     fn index_opened(&mut self, key: usize) -> bool
-        ensures { KeepsFewer S.remaining S.contents self.old self.new }
+        ensures kept { KeepsFewer S.remaining S.contents self.old self.new }
+        ensures own { GainsOwn key self.old self.new }
     {
         let Some(connection) = self.connections.get(key) else {
             return true;
         };
-        if let Some(session) = connection.link.session() {
-            let _ = self.sessions.insert(session, key);
-        }
+        index_session(&mut self.sessions, connection.link.session(), key);
         self.vacancies.is_check_due = true;
         match connection.room_index() {
             Some(index) => {
@@ -288,6 +290,16 @@ impl<S: Read + Write + OpenStream + Drop, R: Readiness<S>> Server<S, R> {
                 .change(connection.standing().output, LinkOutput::NONE);
             let _ = self.connections.try_remove(key);
         }
+    }
+}
+
+/// Notes in an index of sessions which connection has this one, if there is one, and memory for it.
+fn index_session(sessions: &mut IndexMap<u64, usize>, session: Option<u64>, key: usize)
+    ensures { (s other : ℕ) → get nat_eq sessions.new s ≡ Some other
+        → (get nat_eq sessions.old s ≡ Some other) ⊎ ((other ≡ key) × (session ≡ Some s)) }
+{
+    if let Some(session) = session {
+        let _ = sessions.insert(session, key);
     }
 }
 
