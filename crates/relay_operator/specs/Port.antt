@@ -1,5 +1,5 @@
 -- The connections to the admin port.
-use Rattle.std.specs.Prelude.{◌≡◌, ◌⊎◌, ⊤, ℕ, ◌+◌, nat_lt, Bool, true, false, ◌||◌, if◌then◌else◌, List, [], ◌∷◌, ◌++◌, Any, length, take, drop, slice_get, string_bytes, Option, Some, None}
+use Rattle.std.specs.Prelude.{◌≡◌, ◌⊎◌, ⊤, ℕ, ◌+◌, nat_lt, Bool, true, false, ◌||◌, if◌then◌else◌, List, [], ◌∷◌, ◌++◌, Any, length, take, drop, slice_get, string_bytes, Option, Some, None, option_and_then}
 use Rattle.std.specs.declared.alloc.Global.{Global}
 use Rattle.std.specs.declared.string.String.{String}
 use Rattle.std.specs.Io.KnownBytes.{Consumes}
@@ -9,7 +9,11 @@ use Rattle.relay_admin.specs.Route.{request}
 use Rattle.relay_admin.specs.Verdict.{window}
 use Rattle.relay_admin.specs.declared.request.AdminRequest.{AdminRequest}
 use Rattle.relay_admin.specs.declared.request.AdminRequest.TheVariants.{Open, Stop}
-use Rattle.relay_operator.specs.Connection.{IsFresh, Tells, answered}
+use Rattle.relay_operator.specs.Connection.{IsFresh, Tells, answered, asked_by}
+use Rattle.relay_operator.specs.declared.admission.Admission.{Admission}
+use Rattle.relay_operator.specs.declared.admission.Admission.TheVariants as admission
+use Rattle.relay_operator.specs.declared.room_request.RoomRequest.{RoomRequest}
+use Rattle.relay_operator.specs.declared.room_request.RoomRequest.TheVariants as room
 use Rattle.relay_operator.specs.declared.admin_connection.Found.{Found}
 use Rattle.relay_operator.specs.declared.admin_connection.Found.TheVariants.{More}
 use Rattle.relay_operator.specs.declared.admin_port.AdminTurn.{AdminTurn}
@@ -64,6 +68,26 @@ module _ {S : Type 0} where
   AsksAt remaining index (Some asked) connections =
       (c : AdminConnection S) × (slice_get connections index ≡ Some c) × Asks remaining asked c
   AsksAt remaining index None connections = ⊤
+
+  -- one of them asks this of a room, and the whole request was received
+  abbrev pub SomeWants : RoomRequest → List (AdminConnection S) → Type 0
+  SomeWants asked connections =
+      (index : ℕ) × (option_and_then asked_by (slice_get connections index) ≡ Some asked)
+
+  -- one of them asks that the room of a name is forgotten
+  abbrev pub SomeForgets : List ℕ → List (AdminConnection S) → Type 0
+  SomeForgets name connections =
+      (asked : String Global) × (string_bytes asked ≡ name)
+      × SomeWants (room.Forget asked) connections
+
+  -- or that clients may enter a room, or may not
+  abbrev pub SomeAdmits : Admission → List (AdminConnection S) → Type 0
+  SomeAdmits (admission.Open name) connections =
+      (asked : String Global) × (string_bytes asked ≡ name.now)
+      × SomeWants (room.Open asked) connections
+  SomeAdmits (admission.Close name) connections =
+      (asked : String Global) × (string_bytes asked ≡ name.now)
+      × SomeWants (room.Close asked) connections
 
   -- only the connection at an index changed
   pub record OnlyAt (index : ℕ) (old new : List (AdminConnection S)) : Type 0 where

@@ -1,6 +1,6 @@
 //! The port of a server at which an operator asks how it is, reads, edits and forgets rooms, lets
 //! clients in, and stops it.
-ghost use Rattle.std.specs.Prelude.{◌≡◌, ◌<◌, ◌≤◌, ◌+◌, ◌^◌, ◌⊎◌, IfSome, IsTrue, [], drop, vec_len};
+ghost use Rattle.std.specs.Prelude.{◌≡◌, ◌<◌, ◌≤◌, ◌+◌, ◌^◌, ◌⊎◌, IfSome, IsTrue, [], drop, option_and_then, option_copied, slice_get, vec_len};
 ghost use Rattle.relay_admin.specs.declared.request.AdminRequest.TheVariants.{Open, Stop};
 ghost use Rattle.relay_operator.specs.declared.admin_port.TheConstants.{MAX_CONNECTIONS};
 
@@ -78,8 +78,9 @@ where
         }
     }
 
+    ghost use Rattle.relay_operator.specs.Connection.{asked_by};
     ghost use Rattle.relay_operator.specs.Response.{AnswersAsk};
-    ghost use Rattle.relay_operator.specs.Port.{Admits, Answered, AsksAt, Holds, OnlyAt, SomeAsks};
+    ghost use Rattle.relay_operator.specs.Port.{Admits, Answered, AsksAt, Holds, OnlyAt, SomeAdmits, SomeAsks, SomeForgets};
 
     /// Accepts connections that wait, at most as many as may be held. Returns whether more may
     /// wait. A connection that cannot be held is dropped.
@@ -245,12 +246,28 @@ where
     }
 
     /// What the oldest connection asks that has a room opened or closed.
-    pub fn next_admission(&self) -> Option<Admission<'_>> {
+    pub fn next_admission(&self) -> Option<Admission<'_>>
+        // A room is opened or closed only if a connection asks for that.
+        ensures { IfSome result (λ asked. SomeAdmits asked self.now.connections.items) }
+    {
         self.admission_at(self.first_to_admit()?)
     }
 
-    fn admission_at(&self, index: usize) -> Option<Admission<'_>> {
-        match self.connections.get(index)?.asked()? {
+    /// What the connection at an index asks of a room, while that has no response.
+    fn asked_at(&self, index: usize) -> Option<&RoomRequest>
+        ensures { option_copied result
+            ≡ option_and_then asked_by (slice_get self.now.connections.items index) }
+    {
+        match self.connections.get(index) {
+            Some(connection) => connection.asked(),
+            None => None,
+        }
+    }
+
+    fn admission_at(&self, index: usize) -> Option<Admission<'_>>
+        ensures { IfSome result (λ asked. SomeAdmits asked self.now.connections.items) }
+    {
+        match self.asked_at(index)? {
             RoomRequest::Open(room) => Some(Admission::Open(room.as_str())),
             RoomRequest::Close(room) => Some(Admission::Close(room.as_str())),
             _ => None,
@@ -271,8 +288,11 @@ where
     }
 
     /// The room that the oldest connection which waits for that asked to be forgotten.
-    pub fn room_to_forget(&self) -> Option<&str> {
-        match self.connections.get(self.first_to_forget()?)?.asked()? {
+    pub fn room_to_forget(&self) -> Option<&str>
+        // A room is forgotten only if a connection asks for that.
+        ensures { IfSome result (λ room. SomeForgets room.now self.now.connections.items) }
+    {
+        match self.asked_at(self.first_to_forget()?)? {
             RoomRequest::Forget(room) => Some(room.as_str()),
             _ => None,
         }
