@@ -100,7 +100,7 @@ fn stay(
     events: &mut EventLog,
 ) -> VisitOutcome
     requires none { texts.old.items ≡ [] }
-    requires space { MAX_TEXTS ≤ vec_capacity texts.old }
+    requires capacity { MAX_TEXTS ≤ vec_capacity texts.old }
     requires space { length events.old + MAX_TEXTS + 2 ≤ MAX_EVENTS }
     ensures drew { Drew (map string_bytes texts.new.items)
         (at hub.old (Some opening.session) events.old) (at hub.new None events.new) }
@@ -127,7 +127,7 @@ fn say(
     events: &mut EventLog,
 ) -> VisitOutcome
     requires none { texts.old.items ≡ [] }
-    requires space { MAX_TEXTS ≤ vec_capacity texts.old }
+    requires capacity { MAX_TEXTS ≤ vec_capacity texts.old }
     requires space { length events.old + MAX_TEXTS + 1 ≤ MAX_EVENTS }
     ensures drew { Drew (map string_bytes texts.new.items)
         (at hub.old (Some opening.session) events.old)
@@ -157,7 +157,7 @@ fn draw_texts(
     events: &mut EventLog,
 ) -> Result<(), AllocError>
     requires none { texts.old.items ≡ [] }
-    requires space { MAX_TEXTS ≤ vec_capacity texts.old }
+    requires capacity { MAX_TEXTS ≤ vec_capacity texts.old }
     requires space { length events.old + MAX_TEXTS ≤ MAX_EVENTS }
     ensures drew { Drew (map string_bytes texts.new.items)
         (at hub.old (Some session) events.old) (at hub.new (Some session) events.new) }
