@@ -4,6 +4,7 @@ use Rattle.std.proofs.lemmas.List.{take-append-le}
 use Rattle.std.proofs.Math.Seq.{take-append-add, take-length}
 use Rattle.std.specs.Io.KnownBytes.{Appends, Keeps}
 use Rattle.std.proofs.KnownBytes.{Appends-nil, Appends-trans, Keeps-refl}
+use Rattle.std.specs.declared.net.socket_addr.SocketAddr.{SocketAddr}
 use Rattle.relay_event_loop.proofs.Advancing.{no_rounds}
 use Rattle.relay_event_loop.specs.Advances.{Links, with_turns}
 use Rattle.relay_event_loop.specs.Rounds.{Rounds}
@@ -18,7 +19,7 @@ use Rattle.relay_server.specs.Printed.{listening_text, served_text, turns_text}
 use Rattle.relay_script.specs.declared.fault.ScriptFault.TheVariants.{BadLimit, Output, NoMemory}
 use Rattle.relay_loopback.specs.declared.fault.ServeFault.{ServeFault}
 use Rattle.relay_loopback.specs.declared.fault.ServeFault.TheVariants.{Ended, Listen, Wait}
-use Rattle.relay_loopback.specs.Faults.{IsListen}
+use Rattle.relay_loopback.specs.Faults.{IsListenAt}
 use Rattle.relay_server.specs.Hosted.{HeadlineHolds}
 use Rattle.relay_server.specs.Jobs.{HasMade, HasNoSockets, Listens, ServeEnds, ServesUpTo}
 
@@ -122,10 +123,11 @@ unheard_unlimited Wait none = λ limit. cc
 unheard_unlimited (Ended fault) none = absurd none
 
 -- so ends a port that cannot be opened
-pub listen_none : (fault : ServeFault) → IsListen fault → HasNoSockets fault
-listen_none (Listen address code) is = tt
-listen_none Wait is = absurd is
-listen_none (Ended fault) is = absurd is
+pub listen_none : (address : SocketAddr) (fault : ServeFault) → IsListenAt address fault
+    → HasNoSockets fault
+listen_none address (Listen at code) is = tt
+listen_none address Wait is = absurd is
+listen_none address (Ended fault) is = absurd is
 
 -- ---- out of memory cuts no line
 

@@ -7,7 +7,9 @@ use Rattle.relay_script.specs.Representation.{clients_of, stage_of}
 use Rattle.relay_script.specs.Script.{Stage, stage, Answers}
 use Rattle.relay_script.specs.declared.script.Script.{Script}
 use Rattle.relay_script.proofs.ScriptLemmas.{answers_seen}
-use Rattle.relay_loopback.specs.Loopback.{CanCome, LoopbackAnswers}
+use Rattle.relay_loopback.specs.Loopback.{CanCome, Comes, Tells, LoopbackAnswers}
+use Rattle.relay_loopback.specs.declared.loopback.Loopback.{Loopback}
+use Rattle.relay_loopback.proofs.Outcomes.{can_come}
 use Rattle.relay_server.proofs.JobLemmas.{ended_apart, loop_ran}
 use Rattle.relay_server.proofs.jobs.answer_lines.Goals as goal
 
@@ -15,14 +17,13 @@ use Rattle.relay_server.proofs.jobs.answer_lines.Goals as goal
 abbrev see : {T : Type 0} → Script T → Stage ⊤
 see s = stage tt (clients_of s.clients)
 
-as_seen : {T : Type 0} (old new : Script T) (number : ℕ) (line answer : List ℕ)
-    → Answers (λ before event came after. CanCome event came) (λ before session shown.
-    ⊤) (stage_of old) number line (stage_of new) answer
+as_seen : {N L S : Type 0} (old new : Script (Loopback N L S)) (number : ℕ) (line answer : List ℕ)
+    → Answers Comes Tells (stage_of old) number line (stage_of new) answer
     → LoopbackAnswers (see old) number line (see new) answer
 as_seen old new number line answer h =
-    answers_seen (λ before event came after. CanCome event came) (λ before session shown.
-    ⊤) (λ before event came after. CanCome event came) (λ before session shown. ⊤) (λ _. tt)
-    (λ _ _ _ _ h. h) (λ _ _ _ _. tt) (stage_of old) (stage_of new) number line answer h
+    answers_seen Comes Tells (λ before event came after. CanCome event came)
+    (λ before session shown. ⊤) (λ _. tt) can_come (λ _ _ _ _. tt) (stage_of old) (stage_of new)
+    number line answer h
 
 pub returns-in_err-run_lines-clause-ends : goal.returns-in_err-run_lines-clause-ends
 returns-in_err-run_lines-clause-ends g c =
