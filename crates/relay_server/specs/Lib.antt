@@ -1,3 +1,4 @@
+pub mod Complaints
 pub mod Config
 pub mod Hosted
 pub mod Jobs

@@ -3,6 +3,8 @@ ghost use Rattle.std.specs.Prelude.{◌≡◌, ◌≢◌, ◌↔◌, [], IfErr, 
 ghost use Rattle.relay_hub.specs.Queries.{BadLimits};
 ghost use Rattle.relay_hub.specs.Stands.{StandsFor};
 ghost use Rattle.relay_loopback.specs.Loopback.{hub_of};
+ghost use Rattle.relay_script.specs.Lines.{AppendsPart};
+ghost use Rattle.relay_server.specs.Complaints.{unread_complaint};
 ghost use Rattle.relay_server.specs.Config.{config_of};
 ghost use Rattle.relay_server.specs.Jobs.{JobEnds, LoopEnds, Starts, StopEnds, code_of, sockets_status, unread_status};
 ghost use Rattle.relay_script.specs.declared.fault.ScriptFault.TheVariants.{BadLimit};
@@ -10,7 +12,7 @@ ghost use Rattle.relay_loopback.specs.declared.fault.ServeFault.TheVariants.{End
 
 use crate::config::config_of;
 use crate::serve::{ServeOptions, serve};
-use crate::status::{Status, report, say};
+use crate::status::{Status, complaint, report, say};
 use relay_loopback::{Loopback, ServeFault};
 use relay_options::{Job, Settings, Stop, job_of};
 use relay_script::{Script, ScriptFault, run_follow, run_lines, run_script, write_whole};
@@ -63,20 +65,33 @@ fn seconds_since_1970<C: Clock>(clock: &C) -> Option<u64> {
 /// assert!(rt; refuse_words(ErrorKind::OutOfMemory, &mut errors) == 3);
 /// ```
 pub fn refuse_words<E: Write>(why: ErrorKind, errors: &mut E) -> u8
-    ensures { result ≡ code_of (unread_status why) }
+    ensures status { result ≡ code_of (unread_status why) }
+    ensures says { AppendsPart (E.contents errors.old) (E.contents errors.new)
+        (unread_complaint why) }
 {
-    let status = match why {
-        ErrorKind::InvalidData => {
-            say("relay: an argument is not UTF-8\n", errors);
-            Status::Misused
-        }
-        ErrorKind::OutOfMemory => report(Err(ScriptFault::NoMemory), errors),
-        _ => {
-            say("relay: the arguments cannot be read\n", errors);
-            Status::Failed
-        }
-    };
-    status.code()
+    say(unread_complaint(why), errors);
+    unread_status(why).code()
+}
+
+/// Why the arguments could not be read, for standard error.
+fn unread_complaint(why: ErrorKind) -> &'static str
+    ensures { result.now ≡ unread_complaint why }
+{
+    match why {
+        ErrorKind::InvalidData => "relay: an argument is not UTF-8\n",
+        ErrorKind::OutOfMemory => complaint(ScriptFault::NoMemory),
+        _ => "relay: the arguments cannot be read\n",
+    }
+}
+
+fn unread_status(why: ErrorKind) -> Status
+    ensures { result ≡ unread_status why }
+{
+    match why {
+        ErrorKind::InvalidData => Status::Misused,
+        ErrorKind::OutOfMemory => Status::NoMemory,
+        _ => Status::Failed,
+    }
 }
 
 /// Runs a job over a reader and a writer, with sockets from `net`, and reports faults on `errors`.

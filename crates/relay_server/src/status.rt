@@ -1,8 +1,10 @@
 //! The exit status of the program.
 ghost use Rattle.std.specs.Prelude.{◌≡◌, Err};
+ghost use Rattle.relay_script.specs.Lines.{AppendsPart};
+ghost use Rattle.relay_server.specs.Complaints.{complaint, Complains};
 ghost use Rattle.relay_server.specs.Jobs.{code_of, status_of};
 
-use relay_script::ScriptFault;
+use relay_script::{ScriptFault, write_whole};
 use std::io::Write;
 
 /// The exit statuses of the program.
@@ -51,7 +53,8 @@ impl Status {
 /// assert!(rt; !errors.is_empty());
 /// ```
 pub fn report<E: Write>(ended: Result<(), ScriptFault>, errors: &mut E) -> Status
-    ensures { result ≡ status_of ended }
+    ensures status { result ≡ status_of ended }
+    ensures says { Complains ended (E.contents errors.old) (E.contents errors.new) }
 {
     if let Err(fault) = ended {
         say(complaint(fault), errors);
@@ -81,7 +84,10 @@ fn fault_status(fault: ScriptFault) -> Status
     }
 }
 
-fn complaint(fault: ScriptFault) -> &'static str {
+/// What is said of a fault on standard error.
+pub(crate) fn complaint(fault: ScriptFault) -> &'static str
+    ensures { result.now ≡ complaint fault }
+{
     match fault {
         ScriptFault::BadLimit => "relay: a limit out of range\n",
         ScriptFault::Input => "relay: input\n",
@@ -93,6 +99,9 @@ fn complaint(fault: ScriptFault) -> &'static str {
 }
 
 /// Writes a text to `errors`. A fault of that writer is ignored: there is nowhere to report it.
-pub fn say<E: Write>(text: &str, errors: &mut E) {
-    let _ = errors.write_all(text.as_bytes());
+#[tactic(auto, using(crate::proofs::ServeLemmas::part_whole))]
+pub fn say<E: Write>(text: &str, errors: &mut E)
+    ensures { AppendsPart (E.contents errors.old) (E.contents errors.new) text.now }
+{
+    let _ = write_whole(errors, text.as_bytes());
 }

@@ -19,7 +19,7 @@ returns-in-Script g c =
     run.ensures.untouched in
     JobEnds-at _ _ _ input left old new c.in-Script.is (
       run.result,
-      c.report.ensures,
+      c.report.ensures.status,
       rw c.config_of.ensures at run.ensures.bad_limit,
       subst (λ (config : HubConfig).
           Ends HubAnswers (new_stage config) run.result input left old new) c.config_of.ensures
@@ -36,7 +36,7 @@ returns-in-Follow g c =
     let run = c.run_follow in
     JobEnds-at _ _ _ input left old new c.in-Follow.is (
       run.result,
-      c.report-in-Follow.ensures,
+      c.report-in-Follow.ensures.status,
       no_limits run.result run.ensures.limits,
       Ends-free follow.Answers None input left old new run.result run.ensures.done run.ensures.read
           run.ensures.stopped run.ensures.limits,

@@ -35,11 +35,11 @@ returns-in-Help g c =
     let old = g.W.Write.contents c.args.writer.now in
     let wrote = c.write_whole.ensures in
     at_stop _ _ _ _ _ c.in-Help.is
-    (shows _ _ _ c.write_whole.result old _ c.as_bytes.ensures.value c.report.ensures wrote.ok
+    (shows _ _ _ c.write_whole.result old _ c.as_bytes.ensures.value c.report.ensures.status wrote.ok
     wrote.err wrote.fault)
 
 pub returns-in-Misuse : goal.returns-in-Misuse
 returns-in-Misuse g c = at_stop _ _ _ _ _ c.in-Misuse.is (refl, refl)
 
 pub returns-in-NoMemory : goal.returns-in-NoMemory
-returns-in-NoMemory g c = at_stop _ _ _ _ _ c.in-NoMemory.is (c.report-in-NoMemory.ensures, refl)
+returns-in-NoMemory g c = at_stop _ _ _ _ _ c.in-NoMemory.is (c.report-in-NoMemory.ensures.status, refl)
