@@ -1,13 +1,12 @@
 -- Transports of a script: the outcomes that an event may have, and the results of `truth_of`.
-use Rattle.std.specs.Prelude.{ℕ, ◌≡◌, ◌≢◌, ◌<◌, length, Option, Some, None, option_map, Result, Ok, Err, IsSomeAnd, IsTrue}
-use Rattle.relay_hub.specs.Session.{waiting}
+use Rattle.std.specs.Prelude.{ℕ, ◌≡◌, ◌≢◌, Option, Some, None, Result, Ok, Err}
+use Rattle.relay_hub.specs.Memory.{TakesMemory}
 use Rattle.relay_hub.specs.State.{State as Hub, session_of}
-use Rattle.relay_hub.specs.Step.{Step, open_fault}
-use Rattle.relay_hub.specs.Queries.{may_hear, truth}
+use Rattle.relay_hub.specs.Step.{Step}
+use Rattle.relay_hub.specs.Queries.{truth}
 use Rattle.relay_hub.specs.declared.event.Answer.{Answer}
 use Rattle.relay_hub.specs.declared.event.Answer.TheVariants.{Opened, Closed}
 use Rattle.relay_hub.specs.declared.event.Event.{Event}
-use Rattle.relay_hub.specs.declared.event.Event.TheVariants.{Open, Receive, Draw, DoWill}
 use Rattle.relay_hub.specs.declared.fault.HubFault.{HubFault}
 use Rattle.relay_hub.specs.declared.fault.HubFault.TheVariants as hub
 use Rattle.relay_tree.specs.Document.{Document}
@@ -35,16 +34,8 @@ abbrev pub outcome_of : Option Answer → Outcome
 outcome_of (Some answer) = Answered answer
 outcome_of None = NoMemory
 
--- an event that may be out of memory: the hub would serve it otherwise. A close allocates nothing,
--- so it never is; and a script forgets no room.
-abbrev pub TakesMemory : Hub → Event → Type 0
-TakesMemory hub (Open name access) = open_fault hub name ≡ None
-TakesMemory hub (Receive s text) = IsTrue (may_hear (session_of hub s))
-TakesMemory hub (Draw s) = IsSomeAnd (option_map waiting (session_of hub s)) (λ n. 0 < n)
-TakesMemory hub DoWill = 0 < length hub.wills
-TakesMemory hub event = ⊥
-
--- an event is a step of the hub with its answer; or it is out of memory, and nothing changed
+-- an event is a step of the hub with its answer; or it is out of memory, and nothing changed, which
+-- comes only of an event that takes memory
 abbrev pub HubComes : Transporting Hub
 HubComes old event (Answered answer) new = Step old event answer new
 HubComes old event NoMemory new = (new ≡ old) × TakesMemory old event
