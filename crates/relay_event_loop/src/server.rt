@@ -198,10 +198,10 @@ impl<S: Read + Write + OpenStream + Drop, R: Readiness<S>> Server<S, R> {
     /// are dropped. If it is unknown what is ready, everything counts as ready.
     ///
     /// Once the links hold as much output as they may, no snapshot of a document that weighs more
-    /// than 4,096 is drawn. A link's buffer never shrinks. So while that
-    /// much is held, up to 64 links are ended each second, the largest buffer first: links above an
-    /// equal share that have sent everything, or whose stream took nothing for 30 seconds. It stops
-    /// once half of the limit is free.
+    /// than 4,096 is drawn. A link's buffer never shrinks. So while that much is held, up to 64
+    /// links are ended each second, the largest buffer first: links with an equal share at least
+    /// that have sent everything, or whose stream took nothing for 30 seconds. It stops once half
+    /// of the limit is free.
     ///
     /// ```
     /// let (wire, script) = (Wire::new(alloc), ReadinessScript::new(alloc));

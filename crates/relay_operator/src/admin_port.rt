@@ -22,8 +22,9 @@ use std::net::{OpenListener, OpenStream};
 /// How many connections are held at most. A further one takes the place of the oldest.
 pub const MAX_CONNECTIONS: usize = 8;
 
-/// A listener, and the connections to it, the oldest first. They never wait for each other, nor
-/// does a client of the relay wait for one.
+/// A listener, and the connections to it, the oldest first. None waits for
+/// another's socket, nor does a client of the relay. Visits are made one after another, and those
+/// beyond a round's cost wait for the next round.
 #[derive(Drop)]
 pub struct AdminPort<L: OpenListener> {
     listener: L,
@@ -128,7 +129,7 @@ where
     /// [`AdminPort::answer_admission`], [`AdminPort::answer_forget`] or [`AdminPort::answer_visit`]
     /// says what came of it.
     pub fn turn(&mut self, alloc: Global, view: &AdminView<'_>) -> AdminTurn
-        // Only a request to stop stops, and only a request to open opens.
+        // The flags are set only by a request to stop, or to open.
         ensures stopping { IsTrue result.is_stopping →
             SomeAsks L.Stream.remaining Stop self.old.connections.items }
         ensures opening { IsTrue result.is_opening →
@@ -247,7 +248,7 @@ where
 
     /// What the oldest connection asks that has a room opened or closed.
     pub fn next_admission(&self) -> Option<Admission<'_>>
-        // A room is opened or closed only if a connection asks for that.
+        // A room is named only if a connection asks for it to be opened or closed.
         ensures { IfSome result (λ asked. SomeAdmits asked self.now.connections.items) }
     {
         self.admission_at(self.first_to_admit()?)
@@ -289,7 +290,7 @@ where
 
     /// The room that the oldest connection which waits for that asked to be forgotten.
     pub fn room_to_forget(&self) -> Option<&str>
-        // A room is forgotten only if a connection asks for that.
+        // A room is named only if a connection asks for it to be forgotten.
         ensures { IfSome result (λ room. SomeForgets room.now self.now.connections.items) }
     {
         match self.asked_at(self.first_to_forget()?)? {
@@ -307,8 +308,9 @@ where
         }
     }
 
-    /// The visit that the oldest connection needs which asks to read or to edit a room. Those
-    /// before it that need none have their responses.
+    /// The visit that the oldest connection needs which asks to read or to edit a room. The
+    /// connections before it that need none get their responses here; one for whose response there
+    /// is no memory is dropped.
     pub fn next_visit(&mut self, alloc: Global, hub: &Hub) -> Option<RoomVisit> {
         for _ in 0..MAX_CONNECTIONS {
             let index = self.first_to_visit()?;

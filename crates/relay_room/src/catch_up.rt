@@ -38,12 +38,11 @@ pub enum CatchUp {
 }
 
 impl Room {
-    /// Returns what a client that holds its view of revision `rev` has missed: `Nothing` if `rev`
-    /// is the present revision or no change since then touches the view; `Snapshot` if `rev` is
-    /// below the oldest revision after which all changes are held; else a patch that turns the old
-    /// view into the present one. The patch has paths of at most 66 tokens and values at most 65
-    /// deep. Returns `Future` if `rev` is above the present revision, and `NoMemory` if memory runs
-    /// out.
+    /// Returns what a client that holds its view of revision `rev` has missed. `Snapshot` if the
+    /// changes since `rev` are no longer all held. Else `Nothing` if none of them touches the view.
+    /// Else a patch that turns the old view into the present one. The patch has paths of at most 66
+    /// tokens and values at most 65 deep. Returns `Future` if `rev` is above the present revision,
+    /// and `NoMemory` if memory runs out.
     ///
     /// Costs the number of changes since `rev` times the number of the view's pointers, and a copy
     /// of each value that the patch carries. See `docs/PROTOCOL.md`, "What a request does".

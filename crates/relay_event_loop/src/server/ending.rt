@@ -21,7 +21,7 @@ use std::net::OpenStream;
 /// How many links are ended in a second at most, so that the others have room for their output.
 const MAX_ENDS: u32 = 64;
 
-/// The log says that memory was refused at most once in so many rounds.
+/// So many rounds, at least, lie between two entries of the log that say that memory was refused.
 const SHED_ROUNDS: u64 = 1_024;
 
 impl<S: Read + Write + OpenStream + Drop, R: Readiness<S>> Server<S, R> {
@@ -111,8 +111,9 @@ impl<S: Read + Write + OpenStream + Drop, R: Readiness<S>> Server<S, R> {
     }
 
     /// Once a second, if links hold as much output as they may, ends at most [`MAX_ENDS`] of them,
-    /// the largest buffer first, until half of the limit is free: links above an equal share that
-    /// have sent everything, or whose stream took nothing for long.
+    /// until half of the limit is free. The largest buffer goes first. Only a link that holds an
+    /// equal share at least is ended, and only if it has sent everything, or its stream took
+    /// nothing for long.
     #[tactic(auto, using(crate::proofs::Rules::advances))]
     pub(super) fn relieve<J: ConnectionLog>(&mut self, alloc: Global, before: u64, log: &mut J)
         ensures { KeepsFewer S.remaining S.contents self.old self.new }
@@ -204,8 +205,9 @@ impl<S: Read + Write + OpenStream + Drop, R: Readiness<S>> Server<S, R> {
         self.vacancies.is_check_due = true;
     }
 
-    /// Puts the session of a connection into the index, if it has one, for which there is memory.
-    /// Takes the memory for what is kept of its room; returns whether there was some.
+    /// Puts the session of a connection, if it has one, into the index. Without memory the index
+    /// stays as it is, and no error is reported. Then takes the memory for what is kept of its
+    /// room, and returns whether there was some.
     #[tactic(auto, using(crate::proofs::Rules::advances, crate::proofs::Held::gains_own))]
     fn index_opened(&mut self, key: usize) -> bool
         ensures kept { KeepsFewer S.remaining S.contents self.old self.new }
