@@ -19,7 +19,7 @@ slice_get-take (x ∷ xs) (suc n) zero within = refl
 slice_get-take (x ∷ xs) (suc n) (suc i) within = slice_get-take xs n i (omega arith)
 
 -- what a hub shows at an index is what is seen there
-pub seen_at : (hub : State) (index : ℕ) (found : Option RoomSummary) → index < 2 ^ 64 - 1
+seen_at : (hub : State) (index : ℕ) (found : Option RoomSummary) → index < 2 ^ 64 - 1
     → option_map shown_by found ≡ option_map summary_of (slice_get hub.rooms index)
     → slice_get (rooms_seen hub) index ≡ option_map shown_by found
 seen_at hub index found within is =
@@ -31,12 +31,23 @@ pub few_seen : (hub : State) → length (rooms_seen hub) ≤ 2 ^ 64 - 1
 few_seen hub =
     omega (arith, length-map (take (2 ^ 64 - 1) hub.rooms) summary_of, length-take (2 ^ 64 - 1) hub.rooms)
 
--- where none is seen the rooms end
-pub none_seen : (rooms : List Summary) (index : ℕ) → slice_get rooms index ≡ None
-    → length rooms ≤ index
-none_seen rooms index none =
-    elim (slice_get_cases rooms index).1
-    [ inl there ↦ absurd (cc (none, there.2)) | inr past ↦ past.0 ]
+-- where the hub shows a room, it is the one that is seen
+pub room_seen : (hub : State) (index : ℕ) (found : Option RoomSummary) (room : RoomSummary)
+    → index < 2 ^ 64 - 1
+    → option_map shown_by found ≡ option_map summary_of (slice_get hub.rooms index)
+    → found ≡ Some room → slice_get (rooms_seen hub) index ≡ Some (shown_by room)
+room_seen hub index found room within shown is =
+    seen_at hub index found within shown ∙ ap (option_map shown_by) is
+
+-- where it shows none, all that are seen stand before
+pub all_seen : (hub : State) (index : ℕ) (found : Option RoomSummary) → index < 2 ^ 64 - 1
+    → option_map shown_by found ≡ option_map summary_of (slice_get hub.rooms index)
+    → found ≡ None → length (rooms_seen hub) ≤ index
+all_seen hub index found within shown none =
+    elim (slice_get_cases (rooms_seen hub) index).1 [
+      | inl there ↦ absurd (cc (seen_at hub index found within shown, none, there.2))
+      | inr past ↦ past.0
+    ]
 
 -- the rooms from an index on, if there is one
 pub drop_seen : (rooms : List Summary) (index : ℕ) (r : Summary) → slice_get rooms index ≡ Some r
