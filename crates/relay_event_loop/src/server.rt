@@ -174,11 +174,11 @@ impl<S: Read + Write + OpenStream + Drop, R: Readiness<S>> Server<S, R> {
     /// - reads: each connection that has credit, may have input, and whose room may be read ahead
     ///   gets a read turn; the one that had its turn last comes last. The turn passes at most one
     ///   text to the hub, and draws its reply, which is corked. This repeats until nobody reads, or
-    ///   the turns have cost 5 ms;
+    ///   the turns have cost 5 ms, as the hub estimates it ([`relay_hub::Hub::cost`]);
     /// - writes: each link with corked output, and then each for which something waits, whose
     ///   stream is writable, gets a write turn, which draws and sends up to 32 messages, each time
-    ///   starting with the one that has waited longest. Once the first pass has drawn 256 KiB, or
-    ///   the second as much, the others wait for the next one;
+    ///   starting with the one that has waited longest. Each of these two passes stops at 256 KiB;
+    ///   links that it did not reach come first in the next pass of its kind;
     /// - reads likewise from connections that owe, from one at least, until the turns of the round
     ///   have cost 5 ms;
     /// - does the wills of the sessions that were closed: one at least, and others until the turns
@@ -189,13 +189,14 @@ impl<S: Read + Write + OpenStream + Drop, R: Readiness<S>> Server<S, R> {
     ///
     /// A turn takes what it cost from the credit of its connection, and each round of credit gives
     /// the same to all ([`relay_schedule::ReadyQueue`]). A room may be read ahead if none of its
-    /// connections waits to be written to, or less was said there since they last were than half of
-    /// what may wait for a session. So a client that has credit waits for one turn of each that has
-    /// credit too, and for the last turn of those who owe. Once memory was refused to a turn, the
-    /// hub gives some back ([`relay_hub::Hub::shed`]), so that resumes and waiting patches become
-    /// snapshots. What was to be drawn is drawn in a later round; but a link ends if there is no
-    /// memory for a text that it read, or for the frame of one that it drew. Links that are gone
-    /// are dropped. If it is unknown what is ready, everything counts as ready.
+    /// connections waits to be written to, or less was said there, since the last time that nobody
+    /// did, than half of what may wait for a session. So a client that has credit waits for one
+    /// turn of each other that has credit; those who owe have what is left of the 5 ms, and one
+    /// turn at least. Once memory was refused to a turn, the hub gives some back
+    /// ([`relay_hub::Hub::shed`]), so that resumes and waiting patches become snapshots. What was
+    /// to be drawn is drawn in a later round; but a link ends if there is no memory for a text that
+    /// it read, or for the frame of one that it drew. Links that are gone are dropped. If it is
+    /// unknown what is ready, everything counts as ready.
     ///
     /// Once the links hold as much output as they may, no snapshot of a document that weighs more
     /// than 4,096 is drawn. A link's buffer never shrinks. So while that much is held, up to 64
@@ -276,8 +277,8 @@ impl<S: Read + Write + OpenStream + Drop, R: Readiness<S>> Server<S, R> {
 }
 
 /// How far a room may be read ahead: by half of what may wait for a session, at least one text. So
-/// no watcher that keeps up is folded by the number of its patches. The weight of changes may,
-/// since a short text can make a heavy one.
+/// no watcher that keeps up is folded by the number of its patches. By their weight it may be,
+/// since a short text can make a heavy change.
 fn share_limits(config: HubConfig) -> ShareLimits {
     ShareLimits {
         texts: (config.max_waiting_patches / 2).max(1),

@@ -41,8 +41,8 @@ pub const MAX_DRAWS: u64 = 32;
 /// The initial capacity for a head, in bytes.
 const HEAD_CAPACITY: usize = 512;
 
-/// A stream and its session in the hub. Contracts see its state: its stage, its session, and
-/// whether it is idle or corked.
+/// A stream and its session in the hub. Contracts see the whole [`State`], with the head that was
+/// received, the reply to it, and the socket.
 ///
 /// ```
 /// let wire = Wire::new(alloc);
@@ -128,7 +128,8 @@ impl<S: Read + Write + Drop> Link<S> {
         self.state.stage()
     }
 
-    /// Whether a turn has no work until the stream is ready, or a message waits for the session.
+    /// Whether a further turn has no work until either the stream is ready or a message waits for
+    /// the session.
     /// `false` in three cases: the last read turn found a close; it found a message, and more bytes
     /// were read or may be in the stream; a turn since then was interrupted or out of memory.
     ///
@@ -189,8 +190,9 @@ impl<S: Read + Write + Drop> Link<S> {
     ///   out, it is Gone at once.
     /// - Gone: the turn does nothing.
     ///
-    /// The turn has a cause exactly if it ended Head without Open, left Open, or ended Closing. It
-    /// has a [`DrawStop`](crate::DrawStop) exactly if it found the link Open and left it so.
+    /// The turn has a cause exactly if the link went from Head to Gone, from Open to another stage,
+    /// or from Closing to Gone. It has a [`DrawStop`](crate::DrawStop) exactly if the link was Open
+    /// before it and is so after it.
     /// [`EndCause::Stream`] comes only if in this very turn a call on the stream failed or a write
     /// accepted no byte.
     ///

@@ -161,8 +161,8 @@ impl<S: Read + Write + OpenStream + Drop> AdminConnection<S> {
         Ok(Found::More)
     }
 
-    /// Reads until the bytes received are answered, or no more are there. `None` if the stream is
-    /// over or failed.
+    /// Reads until the bytes received say what is asked, or no more are there. `None` if the stream
+    /// is over or failed.
     #[tactic(auto, using(crate::proofs::Moving::receives_same, crate::proofs::Moving::receives_then))]
     pub(crate) fn hear(&mut self, alloc: Global) -> Result<Option<Ask>, AllocError>
         ensures receives { OnOk result (Receives S.remaining self.old self.new) }
@@ -260,7 +260,7 @@ impl<S: Read + Write + OpenStream + Drop> AdminConnection<S> {
     }
 
     /// Drops what the other side still sends, so that its response is not lost. Whoever sends more
-    /// than a head's length is left to be the oldest connection.
+    /// than is read at once stays until its place is needed, as the oldest.
     fn drain(&mut self) -> Found
         ensures { SameButStream self.old self.new }
     {
