@@ -13,7 +13,11 @@ import (
 )
 
 // The times of a connection, scaled.
-var scaled = keepalive{quiet: 50 * time.Millisecond, silence: 200 * time.Millisecond, unanswered: 3 * time.Second}
+var scaled = keepalive{
+	quiet:      50 * time.Millisecond,
+	silence:    200 * time.Millisecond,
+	unanswered: 3 * time.Second,
+}
 
 // slowListener has connections that send 4 KiB in ten milliseconds.
 type slowListener struct{ net.Listener }
@@ -44,14 +48,15 @@ func (c slowConn) Write(bytes []byte) (int, error) {
 // dialSlowly opens a socket to a relay that is played.
 func dialSlowly(t *testing.T, alive keepalive, play func(*websocket.Conn)) Socket {
 	upgrader := websocket.Upgrader{}
-	server := httptest.NewUnstartedServer(http.HandlerFunc(func(to http.ResponseWriter, request *http.Request) {
+	upgraded := func(to http.ResponseWriter, request *http.Request) {
 		conn, err := upgrader.Upgrade(to, request, nil)
 		if err != nil {
 			return
 		}
 		defer conn.Close()
 		play(conn)
-	}))
+	}
+	server := httptest.NewUnstartedServer(http.HandlerFunc(upgraded))
 	server.Listener = slowListener{server.Listener}
 	server.Start()
 	t.Cleanup(server.Close)

@@ -24,25 +24,48 @@ export type PointerOf<K extends readonly (string | number)[]> = K extends readon
 export function pointer<K extends readonly (string | number)[]>(...keys: K): PointerOf<K>;
 
 /** What the relay tells. */
-export type Json = null | boolean | number | string | readonly Json[] | { readonly [name: string]: Json };
+export type Json =
+  | null
+  | boolean
+  | number
+  | string
+  | readonly Json[]
+  | { readonly [name: string]: Json };
 
 /**
- * What is written: JSON, also of an interface or a class. Numbers are whole and within 2^53; what JSON cannot say is refused by a `TypeError`
- * that names its path.
+ * What is written: JSON, also of an interface or a class. Numbers are whole and within 2^53; what
+ * JSON cannot say is refused by a `TypeError` that names its path.
  */
 export type Writable = null | boolean | number | string | readonly Writable[] | object;
 
-/** What a slot shows: the value to which a pointer leads, or how many elements or members that has. */
+/**
+ * What a slot shows: the value to which a pointer leads, or how many elements or members that has.
+ */
 export type Shown = Pointer | { readonly size: Pointer };
 
 /** The pointers whose slots are watched, at most 16. */
 export type View = readonly Shown[];
 
-/** What stands there: `[value]`, or `[]` where the pointer leads to nothing; of a size `[number]`, or `[]` where there is no list and no object. */
+/**
+ * What stands there: `[value]`, or `[]` where the pointer leads to nothing; of a size `[number]`,
+ * or `[]` where there is no list and no object.
+ */
 export type Slot<T = Json> = readonly [value?: T];
 
-type Unescaped<T extends string> = T extends `${infer A}~1${infer B}` ? `${Unescaped<A>}/${Unescaped<B>}` : T extends `${infer A}~0${infer B}` ? `${Unescaped<A>}~${Unescaped<B>}` : T;
-type Member<D, T extends string> = D extends readonly (infer E)[] ? E : T extends keyof D ? NonNullable<D[T]> : string extends keyof D ? D[keyof D] : D extends null | undefined ? never : unknown;
+type Unescaped<T extends string> = T extends `${infer A}~1${infer B}`
+  ? `${Unescaped<A>}/${Unescaped<B>}`
+  : T extends `${infer A}~0${infer B}`
+    ? `${Unescaped<A>}~${Unescaped<B>}`
+    : T;
+type Member<D, T extends string> = D extends readonly (infer E)[]
+  ? E
+  : T extends keyof D
+    ? NonNullable<D[T]>
+    : string extends keyof D
+      ? D[keyof D]
+      : D extends null | undefined
+        ? never
+        : unknown;
 
 /** The type of what stands at a pointer into a document of the type `D`. */
 export type At<D, P extends string> = string extends P
@@ -56,10 +79,16 @@ export type At<D, P extends string> = string extends P
   : never;
 
 /** The type of what a slot shows. */
-export type ValueOf<D, S extends Shown> = S extends string ? (Json extends D ? any : At<D, S>) : number;
+export type ValueOf<D, S extends Shown> = S extends string
+  ? Json extends D
+    ? any
+    : At<D, S>
+  : number;
 
 /** The types of a view's slots. */
-export type SlotsOf<D, V extends readonly Shown[]> = { readonly [K in keyof V]: V[K] extends Shown ? Slot<ValueOf<D, V[K]>> : never };
+export type SlotsOf<D, V extends readonly Shown[]> = {
+  readonly [K in keyof V]: V[K] extends Shown ? Slot<ValueOf<D, V[K]>> : never;
+};
 
 /** An operation of a JSON Patch (RFC 6902). */
 export type Operation =
@@ -70,13 +99,17 @@ export type Operation =
 /**
  * - `connecting`: a connection is being made, or its slots are awaited.
  * - `open`: the slots are those of the relay, but for what is on its way.
- * - `waiting`: the connection was lost, or could not be had; the next try comes after a while. The slots stay as they were.
+ * - `waiting`: the connection was lost, or could not be had; the next try comes after a while. The
+ *   slots stay as they were.
  * - `closed`: by `close`, or since the relay refused the first view or what `begin` has.
  */
 export type State = "connecting" | "open" | "waiting" | "closed";
 
 export interface Change<Slots = readonly Slot[]> {
-  /** What is shown: what the relay showed, with the optimistic edits that wait laid over it. No later change writes to it. */
+  /**
+   * What is shown: what the relay showed, with the optimistic edits that wait laid over it. No
+   * later change writes to it.
+   */
   readonly slots: Slots;
   /** What the relay showed. */
   readonly confirmed: Slots;
@@ -84,7 +117,10 @@ export interface Change<Slots = readonly Slot[]> {
   readonly rev: number;
   /** How many optimistic edits wait. */
   readonly pending: number;
-  /** What led to `confirmed` from the one before, with slot `k`'s value at `/k/0`; null where it came anew, or where it is as before. */
+  /**
+   * What led to `confirmed` from the one before, with slot `k`'s value at `/k/0`; null where it
+   * came anew, or where it is as before.
+   */
   readonly patch: readonly Operation[] | null;
 }
 
@@ -101,12 +137,16 @@ export interface Store {
   removeItem(key: string): void;
 }
 
-export interface Options<V extends readonly Shown[] = readonly Shown[], Slots = readonly Slot<any>[]> {
+export interface Options<
+  V extends readonly Shown[] = readonly Shown[],
+  Slots = readonly Slot<any>[],
+> {
   /** What is to be shown, at most 16. */
   view: readonly [...V];
   /**
-   * The document that the room is to begin with. Each connection writes it first, before any edit that waits, if the document is `null`:
-   * in a new room, and after a restart of the relay. It is no edit for `undo`. If it is refused, as `too-heavy`, the board is closed.
+   * The document that the room is to begin with. Each connection writes it first, before any edit
+   * that waits, if the document is `null`: in a new room, and after a restart of the relay. It is
+   * no edit for `undo`. If it is refused, as `too-heavy`, the board is closed.
    */
   begin?: Writable;
   /**
@@ -123,16 +163,20 @@ export interface Options<V extends readonly Shown[] = readonly Shown[], Slots = 
    * console says why there is no connection.
    */
   onState?: (state: State, cause: Error | null) => void;
-  /** Told of each optimistic edit that is taken back. The promise of such an edit need not be looked at then. */
+  /**
+   * Told of each optimistic edit that is taken back. The promise of such an edit need not be looked
+   * at then.
+   */
   onTakenBack?: (told: TakenBack) => void;
   /**
-   * What may wait for the connection while it is lost. `all`: every edit. `guarded`: only one with a `base`, or with a `test` in front;
-   * others are `Refused` at once, as `away`. `all` if nothing is said.
+   * What may wait for the connection while it is lost. `all`: every edit. `guarded`: only one with
+   * a `base`, or with a `test` in front; others are `Refused` at once, as `away`. `all` if nothing
+   * is said.
    */
   queue?: "guarded" | "all";
   /**
-   * Where edits that were not sent yet are kept, so that the next page with the same key sends them. Nowhere, if nothing is said. If
-   * something else stands there, nothing is sent.
+   * Where edits that were not sent yet are kept, so that the next page with the same key sends
+   * them. Nowhere, if nothing is said. If something else stands there, nothing is sent.
    */
   storage?: Store;
   /** The key in `storage`, of one page at a time. The address, if nothing is said. */
@@ -144,15 +188,22 @@ export interface Options<V extends readonly Shown[] = readonly Shown[], Slots = 
   once?: Pointer;
   /** The class of the sockets; the global one, if nothing is said. */
   WebSocket?: new (url: string) => unknown;
-  /** How long the first try after a loss waits at most, in milliseconds; each further one waits up to twice as long. 200 if nothing is said. */
+  /**
+   * How long the first try after a loss waits at most, in milliseconds; each further one waits up
+   * to twice as long. 200 if nothing is said.
+   */
   firstWait?: number;
   /** How long a try waits at most, in milliseconds. 10,000 if nothing is said. */
   longestWait?: number;
-  /** After how many milliseconds without a message the relay is asked for one. 20,000 if nothing is said. */
+  /**
+   * After how many milliseconds without a message the relay is asked for one. 20,000 if nothing is
+   * said.
+   */
   quiet?: number;
   /**
-   * For how many milliseconds the oldest request may have no answer, before the connection is given up. 10,000 if nothing is said. A
-   * snapshot may take six times as long. Each connection in a row that is given up doubles both, up to eightfold, until slots come.
+   * For how many milliseconds the oldest request may have no answer, before the connection is given
+   * up. 10,000 if nothing is said. A snapshot may take six times as long. Each connection in a row
+   * that is given up doubles both, up to eightfold, until slots come.
    */
   patience?: number;
 }
@@ -160,7 +211,10 @@ export interface Options<V extends readonly Shown[] = readonly Shown[], Slots = 
 export interface EditOptions {
   /** The revision at which alone it is to be done, as `rev` of the slots from which it was made. */
   base?: number | null;
-  /** The run of the relay of which the base is a revision. If nothing is said, that of the slots. To be kept beside a base that is used later. */
+  /**
+   * The run of the relay of which the base is a revision. If nothing is said, that of the slots. To
+   * be kept beside a base that is used later.
+   */
   epoch?: number | null;
   /** Whether it shows at once. */
   optimistic?: boolean;
@@ -230,8 +284,9 @@ export interface SetOptions extends EditOptions {
 }
 
 /**
- * What stands at a pointer that the view shows, by itself or as a part of another one: with the view `["/cards"]` also `/cards/0`. Reading
- * and writing throw a `RangeError` if the view does not show it. An index names another element once somebody inserted or removed before it.
+ * What stands at a pointer that the view shows, by itself or as a part of another one: with the
+ * view `["/cards"]` also `/cards/0`. Reading and writing throw a `RangeError` if the view does not
+ * show it. An index names another element once somebody inserted or removed before it.
  */
 export interface Place<T> {
   /** What stands there; undefined where nothing does, or before the first slots. */
@@ -241,22 +296,28 @@ export interface Place<T> {
   /** Tells of each other value. Gives its end. */
   subscribe(listener: (value: T | undefined) => void): () => void;
   /**
-   * Writes another value, which shows at once: replaces what stands there, or adds a member, or an element at the end, where nothing does.
-   * One value of a place is on its way at a time: of those that are set meanwhile the newest is sent, and the others end as it does,
-   * unless something else is asked for in between. Fails as `edit`, and throws before the first slots.
+   * Writes another value, which shows at once: replaces what stands there, or adds a member, or an
+   * element at the end, where nothing does. One value of a place is on its way at a time: of those
+   * that are set meanwhile the newest is sent, and the others end as it does, unless something else
+   * is asked for in between. Fails as `edit`, and throws before the first slots.
    */
   set(value: T, options?: SetOptions): Promise<number>;
   /**
-   * Writes the value that `change` makes of the one that stands there, and does it again until nobody was faster; where it makes
-   * `undefined`, nothing. Fails as `edit`; with `stale` after that many `tries`, 20 if nothing is said.
+   * Writes the value that `change` makes of the one that stands there, and does it again until
+   * nobody was faster; where it makes `undefined`, nothing. Fails as `edit`; with `stale` after
+   * that many `tries`, 20 if nothing is said.
    */
-  update(change: (value: T | undefined) => T | undefined, options?: { tries?: number; undo?: boolean }): Promise<number>;
+  update(
+    change: (value: T | undefined) => T | undefined,
+    options?: { tries?: number; undo?: boolean },
+  ): Promise<number>;
   /** Adds elements to the end of a list. It is a `change`, as those below are. */
   push(...values: ElementOf<T>[]): Promise<number>;
   /**
    * Puts an element in front of the one that is shown at an index, or at the end, by the index
-   * behind the last. Where that one has moved by then it is put in front of it there; it is `Refused`, as
-   * `changed`, where it is gone. So are those below, which follow their elements by their values.
+   * behind the last. Where that one has moved by then it is put in front of it there; it is
+   * `Refused`, as `changed`, where it is gone. So are those below, which follow their elements by
+   * their values.
    */
   insert(at: number, value: ElementOf<T>, options?: ChangeOptions): Promise<number>;
   remove(at: number, options?: ChangeOptions): Promise<number>;
@@ -269,7 +330,10 @@ export interface Place<T> {
 export interface Board<D = Json, V extends readonly Shown[] = readonly Shown[]> {
   /** The view whose slots these are. */
   readonly view: readonly Shown[];
-  /** What is shown: what the relay showed, with the optimistic edits that wait laid over it. Null before the first snapshot. */
+  /**
+   * What is shown: what the relay showed, with the optimistic edits that wait laid over it. Null
+   * before the first snapshot.
+   */
   readonly slots: SlotsOf<D, V> | null;
   /** What the relay showed. Null before the first snapshot. */
   readonly confirmed: SlotsOf<D, V> | null;
@@ -280,13 +344,22 @@ export interface Board<D = Json, V extends readonly Shown[] = readonly Shown[]> 
   /** How many optimistic edits wait. */
   readonly pending: number;
   readonly state: State;
-  /** The first slots. Fails with `Refused` where the view or the document of `begin` is refused, and with `Closed`. */
+  /**
+   * The first slots. Fails with `Refused` where the view or the document of `begin` is refused, and
+   * with `Closed`.
+   */
   readonly ready: Promise<SlotsOf<D, V>>;
   /** Tells a listener after each change. Gives its end. */
   subscribe(listener: (change: Change<SlotsOf<D, V>>) => void): () => void;
-  /** What stands at a pointer. Equal pointers give the same place, as long as it is held or listened to. */
+  /**
+   * What stands at a pointer. Equal pointers give the same place, as long as it is held or listened
+   * to.
+   */
   at<P extends Shown>(shown: P): Place<ValueOf<D, P>>;
-  /** Shows another view from now on. Gives its slots, or those of a later view where one was asked for in the meantime. Fails with `Refused`, and the view before stays; and with `Closed`. */
+  /**
+   * Shows another view from now on. Gives its slots, or those of a later view where one was asked
+   * for in the meantime. Fails with `Refused`, and the view before stays; and with `Closed`.
+   */
   watch<W extends readonly Shown[]>(view: readonly [...W]): Promise<SlotsOf<D, W>>;
   /**
    * The slots, once all that was said so far is answered and shown: this client's edits, and all
@@ -295,18 +368,22 @@ export interface Board<D = Json, V extends readonly Shown[] = readonly Shown[]> 
    */
   sync(): Promise<SlotsOf<D, V>>;
   /**
-   * Edits the document, all of it or nothing. Gives the new revision, which the slots may still be on their way to.
+   * Edits the document, all of it or nothing. Gives the new revision, which the slots may still be
+   * on their way to.
    *
-   * Fails with `Refused`, where nothing changed; with `Unknown`, where the connection was lost before the answer; with `Closed`; and with
-   * a `TypeError`, where a value is none that the relay takes. At most 31 requests are on their way at once; the others wait here, also
-   * for a connection, and are sent in order.
+   * Fails with `Refused`, where nothing changed; with `Unknown`, where the connection was lost
+   * before the answer; with `Closed`; and with a `TypeError`, where a value is none that the relay
+   * takes. At most 31 requests are on their way at once; the others wait here, also for a
+   * connection, and are sent in order.
    *
-   * With `optimistic` it shows at once, as far as the slots tell what it does. A patch is done whole or not at all: where an operation does
-   * not fit what is shown, nothing of it is. Where it is refused, or its answer is lost, it is taken back, and `onTakenBack` is told.
+   * With `optimistic` it shows at once, as far as the slots tell what it does. A patch is done
+   * whole or not at all: where an operation does not fit what is shown, nothing of it is. Where it
+   * is refused, or its answer is lost, it is taken back, and `onTakenBack` is told.
    *
-   * With a `base` it is done only where the room is at that revision, and gives the next one. Else it is refused, as `stale`: what was seen
-   * may have changed, or anything else in the document. Then `sync()` gives slots of the room's
-   * revision; `rev` by itself stays behind it where an edit touches none of the slots.
+   * With a `base` it is done only where the room is at that revision, and gives the next one. Else
+   * it is refused, as `stale`: what was seen may have changed, or anything else in the document.
+   * Then `sync()` gives slots of the room's revision; `rev` by itself stays behind it where an edit
+   * touches none of the slots.
    *
    * Where the answer of an edit with a `base` was lost, it is sent again once the client is back,
    * and is never done twice. It fails with `Unknown` where it is `stale` then, with the room's
@@ -318,8 +395,8 @@ export interface Board<D = Json, V extends readonly Shown[] = readonly Shown[]> 
   edit(patch: readonly Operation[], options?: EditOptions): Promise<number>;
   /**
    * Changes a draft of what is shown, as any value: by assignments, `delete` and the methods of
-   * lists. The least patch that does it is sent, with moves where a value moved; nothing is, where nothing
-   * was changed. It shows at once.
+   * lists. The least patch that does it is sent, with moves where a value moved; nothing is, where
+   * nothing was changed. It shows at once.
    *
    * Where it is refused since what the function read or addressed is another by then (`guard`), the
    * function is called again, on what is shown then: so it looks for what it means, and takes no
@@ -354,9 +431,10 @@ export interface Board<D = Json, V extends readonly Shown[] = readonly Shown[]> 
    */
   will(patch: readonly Operation[]): Promise<void>;
   /**
-   * Takes back the newest edit of this board that was done, and gives the revision of that; null where there is none. It waits until all
-   * edits before it are shown. Refused, as `changed`, where somebody changed what the edit did; then the edit before it is the newest. Edits
-   * of what the slots did not show are not taken back.
+   * Takes back the newest edit of this board that was done, and gives the revision of that; null
+   * where there is none. It waits until all edits before it are shown. Refused, as `changed`, where
+   * somebody changed what the edit did; then the edit before it is the newest. Edits of what the
+   * slots did not show are not taken back.
    */
   undo(): Promise<number | null>;
   /** Does again what `undo` took back last, until another edit is made. */
@@ -370,14 +448,21 @@ export interface Board<D = Json, V extends readonly Shown[] = readonly Shown[]> 
 }
 
 /**
- * Connects to a room, as `ws://127.0.0.1:8080/rooms/NAME`, and comes back to it whenever the connection is lost. Fails with a `RangeError`
- * where the name is none of a room.
+ * Connects to a room, as `ws://127.0.0.1:8080/rooms/NAME`, and comes back to it whenever the
+ * connection is lost. Fails with a `RangeError` where the name is none of a room.
  *
- * `connect<Document>(url, { view })` types what `at` gives; `connect<Document, typeof view>(url, { view })` the slots as well, of a
+ * `connect<Document>(url, { view })` types what `at` gives;
+ * `connect<Document, typeof view>(url, { view })` the slots as well, of a
  * `const view = [...] as const`.
  */
-export function connect<V extends readonly Shown[]>(url: string, options: Options<V, SlotsOf<Json, V>>): Board<Json, V>;
-export function connect<D, V extends readonly Shown[] = readonly Shown[]>(url: string, options: Options<V, SlotsOf<D, V>>): Board<D, V>;
+export function connect<V extends readonly Shown[]>(
+  url: string,
+  options: Options<V, SlotsOf<Json, V>>,
+): Board<Json, V>;
+export function connect<D, V extends readonly Shown[] = readonly Shown[]>(
+  url: string,
+  options: Options<V, SlotsOf<D, V>>,
+): Board<D, V>;
 
 /**
  * A board of one part of a page, which shares its connection with others. Its edits are those of
@@ -388,15 +473,24 @@ export interface SharedBoard<D = Json, V extends readonly Shown[] = readonly Sho
   extends Omit<Board<D, V>, "watch"> {}
 
 export interface Room<D = Json> {
-  /** Shows pointers, over the connection of the other views where 16 slots are enough for all, and else over another one. */
+  /**
+   * Shows pointers, over the connection of the other views where 16 slots are enough for all, and
+   * else over another one.
+   */
   view<V extends readonly Shown[]>(view: readonly [...V]): SharedBoard<D, V>;
   /** How many connections the views take. */
   readonly connections: number;
   close(): void;
 }
 
-/** Several views of a room over as few connections as they need. `onConnections` is told how many they are, with each new one. */
-export function room<D = Json>(url: string, options?: Omit<Options, "view" | "onChange"> & { onConnections?: (count: number) => void }): Room<D>;
+/**
+ * Several views of a room over as few connections as they need. `onConnections` is told how many
+ * they are, with each new one.
+ */
+export function room<D = Json>(
+  url: string,
+  options?: Omit<Options, "view" | "onChange"> & { onConnections?: (count: number) => void },
+): Room<D>;
 
 /**
  * What is written of somebody: `session` names the session that wrote it, and `beat` counts its
@@ -408,11 +502,17 @@ export interface Presence<E extends object> {
   readonly id: string;
   /** The entries of all who are here, by their ids. What is no object is left out. */
   readonly people: Readonly<Record<string, Present<E>>>;
-  /** When the entry is written for the first time. Fails where the board is closed before, only watches, or does not show the pointer. */
+  /**
+   * When the entry is written for the first time. Fails where the board is closed before, only
+   * watches, or does not show the pointer.
+   */
   readonly ready: Promise<void>;
   /** Tells who is here with each change. Gives its end. */
   subscribe(listener: (people: Readonly<Record<string, Present<E>>>) => void): () => void;
-  /** Shows another entry of this client from now on; without a connection, once it is there again. The promise need not be looked at. */
+  /**
+   * Shows another entry of this client from now on; without a connection, once it is there again.
+   * The promise need not be looked at.
+   */
   set(entry: E): Promise<void>;
   /** Takes this client's entry away. */
   leave(): Promise<void>;
@@ -421,15 +521,15 @@ export interface Presence<E extends object> {
 /**
  * Keeps an entry of this client in the object at a pointer of the board's view: makes the object if
  * there is none, leaves a will that takes the entry away, and writes it each time that the board is
- * `open`, or that somebody else took it away. Where it is refused, as in a room that has no document
- * yet, it is tried again when the document changes. The entry goes when the relay finds that the
- * session has ended: of a machine that lost its network that may take as long as the system or a
- * proxy keeps the connection.
+ * `open`, or that somebody else took it away. Where it is refused, as in a room that has no
+ * document yet, it is tried again when the document changes. The entry goes when the relay finds
+ * that the session has ended: of a machine that lost its network that may take as long as the
+ * system or a proxy keeps the connection.
  *
  * To a relay that knows no wills the entry is renewed every 20 seconds (`every`), and entries that
- * were not renewed for 150 seconds (`gone`), by this client's clock, are taken away. Each renewal is
- * an edit: a revision of the room, told to every watcher of the object, and it makes an edit with an
- * earlier `base` stale.
+ * were not renewed for 150 seconds (`gone`), by this client's clock, are taken away. Each renewal
+ * is an edit: a revision of the room, told to every watcher of the object, and it makes an edit
+ * with an earlier `base` stale.
  */
 export function presence<E extends object>(
   board: Board<any, any> | SharedBoard<any, any>,
@@ -448,21 +548,29 @@ export function inspected(
 ): new (url: string) => unknown;
 
 /**
- * What the slots of a view show when a patch is laid over them, as far as they tell it: of the others each is as it was, and `known` is
- * false. Fails where an operation is known not to fit.
+ * What the slots of a view show when a patch is laid over them, as far as they tell it: of the
+ * others each is as it was, and `known` is false. Fails where an operation is known not to fit.
  */
-export function overlaid(view: readonly Shown[], slots: readonly Slot[], patch: readonly Operation[]): { slots: Slot[]; known: boolean[] };
+export function overlaid(
+  view: readonly Shown[],
+  slots: readonly Slot[],
+  patch: readonly Operation[],
+): { slots: Slot[]; known: boolean[] };
 
 /** The relay refused a request, and nothing changed by it. */
 export class Refused extends Error {
   constructor(reply: { fault: string; at?: number | null; rev?: number | null }, advice?: string);
   /**
-   * The word of the fault (docs/PROTOCOL.md, "Messages"). The client itself refuses with `too-long` a text of more than 1,056,768 bytes, by
-   * which the connection would end; with `away` what may not wait for the connection; with `changed` an undo of what somebody changed
-   * since; and with `read-only` each edit of a board that only watches.
+   * The word of the fault (docs/PROTOCOL.md, "Messages"). The client itself refuses with `too-long`
+   * a text of more than 1,056,768 bytes, by which the connection would end; with `away` what may
+   * not wait for the connection; with `changed` an undo of what somebody changed since; and with
+   * `read-only` each edit of a board that only watches.
    */
   readonly fault: string;
-  /** The place of the operation or pointer that is at fault, counted from 0; null where no single one is. */
+  /**
+   * The place of the operation or pointer that is at fault, counted from 0; null where no single
+   * one is.
+   */
   readonly at: number | null;
   /** The revision at which the room is, where the fault is `stale`; else null. */
   readonly rev: number | null;
@@ -486,6 +594,9 @@ export class Closed extends Error {}
 export class HandshakeFailed extends Error {
   /** `refused` where something answers at the address, `unreachable` where nothing does. */
   readonly reason: "refused" | "unreachable";
-  /** The status of the answer, as 404 or 503, where the platform tells it: Node does, and a browser for a page of the same origin. */
+  /**
+   * The status of the answer, as 404 or 503, where the platform tells it: Node does, and a browser
+   * for a page of the same origin.
+   */
   readonly status: number | null;
 }

@@ -9,7 +9,10 @@ import { checked } from "./json.mjs";
  * @param {(cause: Refused) => void} refused told of every refusal, but that there is a document
  */
 export function beginning(value, refused) {
-  const patch = [{ op: "test", path: "", value: null }, { op: "add", path: "", value: checked(value, ["begin"]) }];
+  const patch = [
+    { op: "test", path: "", value: null },
+    { op: "add", path: "", value: checked(value, ["begin"]) },
+  ];
   const answered = (/** @type {any} */ reply) => {
     if (reply.kind !== "done" && reply.fault !== "test-failed") refused(new Refused(reply));
   };

@@ -68,7 +68,12 @@ export class Board {
 
   /** @param {string} url @param {any} options */
   constructor(url, { view, begin = null, once = null, ...options }) {
-    this.#options = { WebSocket: globalThis.WebSocket, onState: warning(), ...DEFAULTS, ...options };
+    this.#options = {
+      WebSocket: globalThis.WebSocket,
+      onState: warning(),
+      ...DEFAULTS,
+      ...options,
+    };
     this.#counter = once === null ? null : new Counter(once);
     if (options.onChange) this.#changes.add(options.onChange);
     const { readOnly } = options;
@@ -97,7 +102,9 @@ export class Board {
     this.ready = this.#follower.shown().then(() => this.slots);
     this.ready.catch(() => {});
     this.subscribe = this.subscribe.bind(this);
-    for (const { patch, ...seen } of this.#queue.left()) this.edit(patch, { optimistic: true, ...seen }).catch(() => {});
+    for (const { patch, ...seen } of this.#queue.left()) {
+      this.edit(patch, { optimistic: true, ...seen }).catch(() => {});
+    }
     this.#link.connect();
   }
 
@@ -378,7 +385,9 @@ export class Board {
    */
   async #takeBack({ patch, putsBack }, role) {
     try {
-      return await (putsBack ? this.#putBack(patch, role) : this.#edit(patch, { optimistic: true }, role));
+      return await (
+        putsBack ? this.#putBack(patch, role) : this.#edit(patch, { optimistic: true }, role)
+      );
     } catch (error) {
       if (!(error instanceof Refused) || error.fault === "away") throw error;
       throw new Refused({ fault: "changed", at: error.at, rev: error.rev });
@@ -390,10 +399,14 @@ export class Board {
   /** @param {Operation[]} patch @param {Role} role */
   #putBack(patch, role) {
     const make = () => {
-      if (!fits(knownBy(this.view, this.confirmed ?? []), patch)) throw new Refused({ fault: "changed" });
+      if (!fits(knownBy(this.view, this.confirmed ?? []), patch)) {
+        throw new Refused({ fault: "changed" });
+      }
       return patch;
     };
-    return compareAndSet(this, TRIES, make, (own, seen) => this.#edit(own, { optimistic: true, ...seen }, role));
+    return compareAndSet(this, TRIES, make, (own, seen) =>
+      this.#edit(own, { optimistic: true, ...seen }, role),
+    );
   }
 
   /**
@@ -445,7 +458,13 @@ export class Board {
     const { held } = this.#follower;
     if (held.slots === null) return;
     this.#shown = this.#overlay.shown(held);
-    this.#changes.tell({ slots: this.#shown, confirmed: held.slots, rev: held.rev, pending: this.pending, patch });
+    this.#changes.tell({
+      slots: this.#shown,
+      confirmed: held.slots,
+      rev: held.rev,
+      pending: this.pending,
+      patch,
+    });
   }
 
   /** @param {Error | null} cause */
@@ -481,6 +500,8 @@ function made(given) {
  */
 function revision(base) {
   if (base === undefined || base === null) return undefined;
-  if (!Number.isSafeInteger(base) || Number(base) < 0) throw new TypeError(`a base is a revision, not ${base}`);
+  if (!Number.isSafeInteger(base) || Number(base) < 0) {
+    throw new TypeError(`a base is a revision, not ${base}`);
+  }
   return Number(base);
 }

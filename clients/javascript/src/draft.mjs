@@ -169,7 +169,8 @@ function objectProxy(draft, node) {
   const traps = {
     ...SHUT,
     get(_, key, receiver) {
-      const isOwn = typeof key !== "symbol" && (node.members.has(key) || !(key in Object.prototype));
+      const isOwn =
+        typeof key !== "symbol" && (node.members.has(key) || !(key in Object.prototype));
       return isOwn ? get(key) : Reflect.get(Object.prototype, key, receiver);
     },
     set(_, key, value) {

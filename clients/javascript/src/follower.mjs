@@ -10,9 +10,21 @@ import { checked } from "./json.mjs";
  * @typedef {import("../relay.js").Operation} Operation
  * @typedef {readonly [] | readonly [any]} Slot
  * @typedef {{ number: number, view: readonly Shown[] }} Wanted
- * @typedef {Wanted & { slots: readonly Slot[] | null, rev: number | null, epoch: number | null }} Held
- * @typedef {{ number: number, resolve: (slots: any) => void, reject: (cause: Error) => void }} Waiter
- * @typedef {{ took: (before: Held, patch: Operation[] | null) => void, present: () => void, refused: (cause: Refused) => void }} Hearer
+ * @typedef {Wanted & {
+ *   slots: readonly Slot[] | null,
+ *   rev: number | null,
+ *   epoch: number | null,
+ * }} Held
+ * @typedef {{
+ *   number: number,
+ *   resolve: (slots: any) => void,
+ *   reject: (cause: Error) => void,
+ * }} Waiter
+ * @typedef {{
+ *   took: (before: Held, patch: Operation[] | null) => void,
+ *   present: () => void,
+ *   refused: (cause: Refused) => void,
+ * }} Hearer
  */
 
 export class Follower {
@@ -71,14 +83,17 @@ export class Follower {
    */
   entered() {
     this.#taken = null;
-    this.#link.askFirst(this.#held.number === this.#wanted.number ? this.#resuming() : this.#watching());
+    this.#link.askFirst(
+      this.#held.number === this.#wanted.number ? this.#resuming() : this.#watching(),
+    );
   }
 
   /** @param {any} message A snapshot or a patch. */
   told(message) {
     if (message.kind === "patch") this.#follow(message);
-    else if (Array.isArray(message.view) && message.view.length === this.#taken?.view.length) this.#take(message.rev, message.view, null);
-    else this.astray();
+    else if (Array.isArray(message.view) && message.view.length === this.#taken?.view.length) {
+      this.#take(message.rev, message.view, null);
+    } else this.astray();
   }
 
   /**
@@ -121,7 +136,9 @@ export class Follower {
   /** @param {Wanted} wanted @param {any} reply */
   #refuse({ number }, reply) {
     const refused = new Refused(reply);
-    for (const waiter of this.#waiters.filter((waiter) => waiter.number === number)) waiter.reject(refused);
+    for (const waiter of this.#waiters.filter((waiter) => waiter.number === number)) {
+      waiter.reject(refused);
+    }
     this.#waiters = this.#waiters.filter((waiter) => waiter.number !== number);
     if (this.#wanted.number !== number) return;
     if (this.#held.slots === null) return this.#on.refused(refused);
@@ -133,7 +150,9 @@ export class Follower {
   #follow({ rev, patch }) {
     let slots = null;
     try {
-      if (rev > (this.#held.rev ?? Infinity) && this.#taken?.number === this.#held.number) slots = applied(this.#held.slots, patch);
+      if (rev > (this.#held.rev ?? Infinity) && this.#taken?.number === this.#held.number) {
+        slots = applied(this.#held.slots, patch);
+      }
     } catch {
       // What is held is not what the patch was made for.
     }

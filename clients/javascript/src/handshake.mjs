@@ -21,7 +21,12 @@ export async function failure(url, event) {
     const { location } = globalThis;
     const address = new URL(url.replace(/^ws/, "http"), location?.href);
     const mode = location && location.origin !== address.origin ? "no-cors" : "cors";
-    const { status } = await fetch(address, { mode, redirect: "manual", cache: "no-store", signal: ending.signal });
+    const { status } = await fetch(address, {
+      mode,
+      redirect: "manual",
+      cache: "no-store",
+      signal: ending.signal,
+    });
     return new HandshakeFailed("refused", url, status === NO_HANDSHAKE ? NO_PLACE : status || null);
   } catch {
     return new HandshakeFailed("unreachable", url);

@@ -17,7 +17,8 @@ const LONGEST = 64;
 /**
  * @param {Part} whole What is known before the patch.
  * @param {readonly Operation[]} patch
- * @returns {Inverse | null} null where the slots do not tell enough, or nothing is to be taken back.
+ * @returns {Inverse | null} null where the slots do not tell enough, or nothing is to be taken
+ *   back.
  */
 export function inverse(whole, patch) {
   const draft = new Draft(whole);
@@ -122,7 +123,9 @@ function exchange(path, value, old) {
 function addedBack(draft, path, value) {
   const place = placeOf(draft.whole, path);
   if (place.list === null || (place.list && place.at === null)) throw new Misfit();
-  if (!place.list && read(draft.whole, path).is !== "absent") return exchange(path, value, valueAt(draft, path));
+  if (!place.list && read(draft.whole, path).is !== "absent") {
+    return exchange(path, value, valueAt(draft, path));
+  }
   const there = spelled(place.path);
   return [{ op: "test", path: there, value }, { op: "remove", path: there }];
 }
@@ -152,7 +155,10 @@ function neighbours(draft, { path, holder, at }) {
     const value = valueAt(draft, [...list, String(at)]);
     return { op: "test", path: spelled([...list, place]), value };
   };
-  return [...(at > 0 ? [test(at - 1, at - 1)] : []), ...(at + 1 < length ? [test(at, at + 1)] : [])];
+  return [
+    ...(at > 0 ? [test(at - 1, at - 1)] : []),
+    ...(at + 1 < length ? [test(at, at + 1)] : []),
+  ];
 }
 
 /**
@@ -180,5 +186,7 @@ function movedBack(draft, operation) {
   // A move back would be one into itself where it came in front of what it was taken from, and may
   // shift a place that is put back.
   const isMove = !startsWith(from, path) && last.op === "remove";
-  return isMove ? [test, { op: "move", from: last.path, path: place }] : [test, last, { op: "add", path: place, value: moved }];
+  return isMove
+    ? [test, { op: "move", from: last.path, path: place }]
+    : [test, last, { op: "add", path: place, value: moved }];
 }

@@ -38,7 +38,9 @@ function members(value, path) {
 
 /** @param {number} value @param {readonly (string | number)[]} path */
 function whole(value, path) {
-  if (!Number.isSafeInteger(value)) throw wrong(path, `is ${value}, no whole number within 2^53: scale it, or send a text`);
+  if (!Number.isSafeInteger(value)) {
+    throw wrong(path, `is ${value}, no whole number within 2^53: scale it, or send a text`);
+  }
   return value === 0 ? 0 : value;
 }
 
@@ -83,9 +85,14 @@ export function isObject(value) {
  */
 export function same(one, other) {
   if (one === other) return true;
-  if (one === null || other === null || typeof one !== "object" || typeof other !== "object") return false;
+  if (one === null || other === null || typeof one !== "object" || typeof other !== "object") {
+    return false;
+  }
   if (Array.isArray(one) !== Array.isArray(other)) return false;
   const names = Object.keys(one);
   const [parts, others] = /** @type {Record<string, Json>[]} */ ([one, other]);
-  return names.length === Object.keys(other).length && names.every((name) => Object.hasOwn(other, name) && same(parts[name], others[name]));
+  return (
+    names.length === Object.keys(other).length &&
+    names.every((name) => Object.hasOwn(other, name) && same(parts[name], others[name]))
+  );
 }

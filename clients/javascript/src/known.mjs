@@ -36,10 +36,16 @@ export function pathOf(shown) {
  * @param {readonly Slot[]} slots
  */
 export function knownBy(view, slots) {
-  const told = view.map((shown, k) => ({ path: pathOf(shown), value: typeof shown === "string", slot: slots[k] }));
+  const told = view.map((shown, k) => ({
+    path: pathOf(shown),
+    value: typeof shown === "string",
+    slot: slots[k],
+  }));
   // What an outer slot shows stands first, and values before sizes: what lies within a known value
   // tells nothing new.
-  told.sort((one, other) => one.path.length - other.path.length || Number(other.value) - Number(one.value));
+  told.sort(
+    (one, other) => one.path.length - other.path.length || Number(other.value) - Number(one.value),
+  );
   return told.reduce(tell, UNKNOWN);
 }
 
@@ -80,7 +86,11 @@ function laid(whole, path, change) {
   if (path.length === 0) return change(whole);
   const [token, ...rest] = path;
   const { children, size } = container(whole);
-  return { is: "container", children: new Map(children).set(token, laid(child(whole, token), rest, change)), size };
+  return {
+    is: "container",
+    children: new Map(children).set(token, laid(child(whole, token), rest, change)),
+    size,
+  };
 }
 
 /**
@@ -91,7 +101,9 @@ function laid(whole, path, change) {
 function isList(part) {
   if (part.is === "value") return Array.isArray(part.value);
   if (part.is !== "container") return null;
-  return [...part.children].some(([token, child]) => index(token) === null && isThere(child)) ? false : null;
+  return [...part.children].some(([token, child]) => index(token) === null && isThere(child))
+    ? false
+    : null;
 }
 
 /**
@@ -101,7 +113,9 @@ function isList(part) {
  * @returns {boolean}
  */
 function isThere(part) {
-  if (part.is === "container") return part.size !== null || [...part.children.values()].some(isThere);
+  if (part.is === "container") {
+    return part.size !== null || [...part.children.values()].some(isThere);
+  }
   return part.is === "value";
 }
 
@@ -112,7 +126,10 @@ function isThere(part) {
  */
 export function goesOn(part, at) {
   if (part.is !== "container") return false;
-  return (part.size ?? 0) > at + 1 || [...part.children].some(([token, child]) => (index(token) ?? 0) > at && isThere(child));
+  return (
+    (part.size ?? 0) > at + 1 ||
+    [...part.children].some(([token, child]) => (index(token) ?? 0) > at && isThere(child))
+  );
 }
 
 /**
@@ -184,7 +201,8 @@ export class Draft {
   /**
    * Fails with `Misfit` where the operation is known to be refused.
    * @param {Operation} operation
-   * @param {() => void} [puts] told before something is added, copied or moved to a place; of a move, when it was taken from where it was
+   * @param {() => void} [puts] told before something is added, copied or moved to a place; of a
+   *   move, when it was taken from where it was
    */
   do(operation, puts = () => {}) {
     const path = tokens(operation.path);
@@ -252,7 +270,8 @@ function tested(whole, path, value) {
 /** @param {Part} whole @param {readonly string[]} path @param {Part} part @param {Owned} owned */
 function put(whole, path, part, owned) {
   return changed(whole, path, () => part, {
-    inValue: (value, rest) => (part.is === "value" ? known(added(value, rest, part.value, owned)) : UNKNOWN),
+    inValue: (value, rest) =>
+      part.is === "value" ? known(added(value, rest, part.value, owned)) : UNKNOWN,
     inContainer: (holder, token) => inserted(holder, token, part),
   });
 }
@@ -262,7 +281,10 @@ function taken(whole, path, owned) {
   const atRoot = () => {
     throw new Misfit();
   };
-  return changed(whole, path, atRoot, { inValue: (value, rest) => known(removed(value, rest, owned)), inContainer: dropped });
+  return changed(whole, path, atRoot, {
+    inValue: (value, rest) => known(removed(value, rest, owned)),
+    inContainer: dropped,
+  });
 }
 
 /**
@@ -287,7 +309,10 @@ function exchanged(whole, path, part, owned) {
  * @param {Part} whole
  * @param {readonly string[]} path
  * @param {() => Part} atRoot
- * @param {{ inValue: (value: any, rest: readonly string[]) => Part, inContainer: (holder: Container, token: string) => Part }} change
+ * @param {{
+ *   inValue: (value: any, rest: readonly string[]) => Part,
+ *   inContainer: (holder: Container, token: string) => Part,
+ * }} change
  * @returns {Part}
  */
 function changed(whole, path, atRoot, change) {
@@ -319,11 +344,16 @@ function inserted(holder, token, part) {
   const { list } = placeOf(holder, [token]);
   if (list !== false) {
     const children = unmoved(holder, token);
-    return { is: "container", children: token === "-" ? children : children.set(token, part), size: null };
+    return {
+      is: "container",
+      children: token === "-" ? children : children.set(token, part),
+      size: null,
+    };
   }
   const before = child(holder, token);
   const isKnown = before.is === "absent" || isThere(before);
-  const size = holder.size === null || !isKnown ? null : holder.size + Number(before.is === "absent");
+  const size =
+    holder.size === null || !isKnown ? null : holder.size + Number(before.is === "absent");
   return { is: "container", children: new Map(holder.children).set(token, part), size };
 }
 
@@ -333,7 +363,10 @@ function dropped(holder, token) {
   const size = holder.size === null ? null : holder.size - 1;
   const { list } = placeOf(holder, [token]);
   // Nothing is removed at the end of a list: `-` is a member here.
-  const children = list === false || token === "-" ? new Map(holder.children).set(token, ABSENT) : unmoved(holder, token);
+  const children =
+    list === false || token === "-"
+      ? new Map(holder.children).set(token, ABSENT)
+      : unmoved(holder, token);
   return { is: "container", children, size };
 }
 
@@ -367,7 +400,9 @@ export function slotOf(whole, shown) {
   const part = read(whole, pathOf(shown));
   if (part.is === "absent") return [];
   if (part.is === "value") return typeof shown === "string" ? [part.value] : sizeOf(part.value);
-  if (part.is === "container" && typeof shown !== "string" && part.size !== null) return [part.size];
+  if (part.is === "container" && typeof shown !== "string" && part.size !== null) {
+    return [part.size];
+  }
   return null;
 }
 

@@ -49,7 +49,13 @@ const REPLIES = ["done", "refused", "watching", "resumed", "willing"];
  *   connecting: () => void,
  *   waiting: (asked: Asked[]) => void,
  * }} Hearer
- * @typedef {{ WebSocket: any, firstWait: number, longestWait: number, quiet: number, patience: number }} Options
+ * @typedef {{
+ *   WebSocket: any,
+ *   firstWait: number,
+ *   longestWait: number,
+ *   quiet: number,
+ *   patience: number,
+ * }} Options
  */
 
 export class Link {

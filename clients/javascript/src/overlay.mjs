@@ -67,7 +67,10 @@ export class Overlay {
    * @param {Held} held
    */
   settle(before, held) {
-    this.#leave(before, ({ rev, epoch }) => epoch !== held.epoch || Number(rev) <= (held.rev ?? -1));
+    this.#leave(
+      before,
+      ({ rev, epoch }) => epoch !== held.epoch || Number(rev) <= (held.rev ?? -1),
+    );
     this.settleTraceless(held);
   }
 
@@ -84,7 +87,10 @@ export class Overlay {
   shown(held) {
     if (held.slots === null) return null;
     const start = { whole: this.#known(held), shown: held.slots };
-    return this.#edits.filter(({ optimistic }) => optimistic).reduce((below, edit) => over(below, edit, held), start).shown;
+    return this.#edits
+      .filter(({ optimistic }) => optimistic)
+      .reduce((below, edit) => over(below, edit, held), start)
+      .shown;
   }
 
   /** @param {Held} held */
@@ -98,7 +104,9 @@ export class Overlay {
   /** @param {Unconfirmed} edit @param {Held} held */
   #willShow(edit, held) {
     if (held.slots === null || edit.rev === null || edit.rev <= (held.rev ?? -1)) return false;
-    const earlier = this.#edits.slice(0, this.#edits.indexOf(edit)).filter(({ rev }) => rev !== null);
+    const earlier = this.#edits
+      .slice(0, this.#edits.indexOf(edit))
+      .filter(({ rev }) => rev !== null);
     try {
       return touches(folded(this.#known(held), earlier), edit.patch, held.view);
     } catch {

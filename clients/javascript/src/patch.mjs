@@ -90,7 +90,8 @@ export function replaced(whole, path, value, owned) {
 // An assignment of `__proto__` would set no member.
 /** @param {any} part @param {string} token @param {any} value */
 function put(part, token, value) {
-  Object.defineProperty(part, token, { value, writable: true, enumerable: true, configurable: true });
+  const member = { value, writable: true, enumerable: true, configurable: true };
+  Object.defineProperty(part, token, member);
 }
 
 /**

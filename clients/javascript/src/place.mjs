@@ -182,7 +182,11 @@ export class Place {
   #slot(slots) {
     if (slots === null) return [];
     const cover = this.#cover();
-    if (cover === null) throw new RangeError(`${JSON.stringify(this.#shown)} is not in the view ${JSON.stringify(this.#source.view)}`);
+    if (cover === null) {
+      throw new RangeError(
+        `${JSON.stringify(this.#shown)} is not in the view ${JSON.stringify(this.#source.view)}`,
+      );
+    }
     return cover.rest.reduce(part, slots[cover.at] ?? []);
   }
 
@@ -191,8 +195,12 @@ export class Place {
     const { view } = this.#source;
     const at = view.findIndex((shown) => same(shown, this.#shown));
     if (at >= 0 || typeof this.#shown !== "string") return { at, rest: [] };
-    const outer = view.findIndex((shown) => typeof shown === "string" && startsWith(this.#path, tokens(shown)));
-    return outer < 0 ? null : { at: outer, rest: this.#path.slice(tokens(/** @type {string} */ (view[outer])).length) };
+    const outer = view.findIndex(
+      (shown) => typeof shown === "string" && startsWith(this.#path, tokens(shown)),
+    );
+    return outer < 0
+      ? null
+      : { at: outer, rest: this.#path.slice(tokens(/** @type {string} */ (view[outer])).length) };
   }
 
   /** @param {readonly any[]} slot @param {any} value @returns {Operation} */
@@ -202,7 +210,9 @@ export class Place {
   }
 
   #checkSet() {
-    if (typeof this.#shown !== "string") throw new TypeError("a size is not set: what it counts is");
+    if (typeof this.#shown !== "string") {
+      throw new TypeError("a size is not set: what it counts is");
+    }
   }
 }
 

@@ -2,8 +2,13 @@
 
 /** @param {string} pointer */
 export function tokens(pointer) {
-  if (!/^(\/([^~/]|~[01])*)*$/.test(pointer)) throw new RangeError(`"${pointer}" is no JSON Pointer`);
-  return pointer.split("/").slice(1).map((token) => token.replaceAll("~1", "/").replaceAll("~0", "~"));
+  if (!/^(\/([^~/]|~[01])*)*$/.test(pointer)) {
+    throw new RangeError(`"${pointer}" is no JSON Pointer`);
+  }
+  return pointer
+    .split("/")
+    .slice(1)
+    .map((token) => token.replaceAll("~1", "/").replaceAll("~0", "~"));
 }
 
 /**
@@ -24,7 +29,9 @@ function isKey(key) {
 
 /** @param {readonly (string | number)[]} path */
 export function spelled(path) {
-  return path.map((token) => `/${String(token).replaceAll("~", "~0").replaceAll("/", "~1")}`).join("");
+  return path
+    .map((token) => `/${String(token).replaceAll("~", "~0").replaceAll("/", "~1")}`)
+    .join("");
 }
 
 /**

@@ -188,7 +188,10 @@ export class Presence {
   // Whoever comes first makes the object, which no patch can do without wiping one that is there:
   // so it is made on what was seen.
   #makeObject() {
-    return this.#place.update((/** @type {unknown} */ people) => (isObject(people) ? undefined : {}), { undo: false });
+    return this.#place.update(
+      (/** @type {unknown} */ people) => (isObject(people) ? undefined : {}),
+      { undo: false },
+    );
   }
 
   /** @param {string} session */

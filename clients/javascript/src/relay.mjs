@@ -34,7 +34,10 @@ export function room(url, options = {}) {
  */
 export function overlaid(view, slots, patch) {
   const whole = afterAll(knownBy(view, slots), patch);
-  return { slots: slotsOf(whole, view, slots), known: view.map((shown) => slotOf(whole, shown) !== null) };
+  return {
+    slots: slotsOf(whole, view, slots),
+    known: view.map((shown) => slotOf(whole, shown) !== null),
+  };
 }
 
 const NO_SOCKETS =

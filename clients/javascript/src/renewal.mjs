@@ -48,7 +48,8 @@ export class Renewal {
       const before = this.#seen.get(id);
       return [id, before !== undefined && before.beat === beat ? before : { beat, since: now }];
     }));
-    const isGone = (/** @type {{ since: number }} */ { since }) => now - since >= this.#options.gone;
+    const isGone = (/** @type {{ since: number }} */ { since }) =>
+      now - since >= this.#options.gone;
     return [...this.#seen].flatMap(([id, seen]) => (isGone(seen) ? [id] : []));
   }
 }

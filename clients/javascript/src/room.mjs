@@ -33,7 +33,8 @@ export class Room {
   view(pointers) {
     if (pointers.length > SLOTS) throw new RangeError(`a view has at most ${SLOTS} slots`);
     pointers.forEach(pathOf);
-    const shared = this.#boards.find((board) => board.hasPlaceFor(pointers)) ?? this.#another(pointers);
+    const shared =
+      this.#boards.find((board) => board.hasPlaceFor(pointers)) ?? this.#another(pointers);
     return new SharedBoard(shared, [...pointers]);
   }
 
@@ -77,7 +78,10 @@ class Shared {
   join(view, pointers) {
     const wanted = this.#with(pointers);
     this.#views.set(view, pointers);
-    if (wanted.length !== this.#wanted.length || !wanted.every((shown, k) => same(shown, this.#wanted[k]))) {
+    if (
+      wanted.length !== this.#wanted.length ||
+      !wanted.every((shown, k) => same(shown, this.#wanted[k]))
+    ) {
       this.#shown = this.board.watch(wanted);
     }
     this.#wanted = wanted;
@@ -170,7 +174,11 @@ class SharedBoard {
   /** @param {any} slots @returns {any} */
   #own(slots) {
     const { view } = this.#shared.board;
-    const own = slots && this.#pointers.map((shown) => slots[view.findIndex((/** @type {Shown} */ other) => same(other, shown))]);
+    const own =
+      slots &&
+      this.#pointers.map(
+        (shown) => slots[view.findIndex((/** @type {Shown} */ other) => same(other, shown))],
+      );
     return own === null || own.includes(undefined) ? null : own;
   }
 

@@ -7,7 +7,12 @@ import { Draft, goesOn, pathOf, placeOf, read } from "./known.mjs";
  * @typedef {import("./known.mjs").Part} Part
  * @typedef {import("../relay.js").Shown} Shown
  * @typedef {import("../relay.js").Operation} Operation
- * @typedef {{ path: readonly string[], list: boolean | null, at: number | null, set: boolean }} Place
+ * @typedef {{
+ *   path: readonly string[],
+ *   list: boolean | null,
+ *   at: number | null,
+ *   set: boolean,
+ * }} Place
  * @typedef {Place & { holder: Part | null }} Origin
  */
 
@@ -20,7 +25,9 @@ import { Draft, goesOn, pathOf, placeOf, read } from "./known.mjs";
  */
 export function touches(whole, patch, view) {
   const draft = new Draft(whole);
-  return patch.flatMap((operation) => changed(draft, operation)).some((place) => view.some((shown) => touch(shown, place)));
+  return patch
+    .flatMap((operation) => changed(draft, operation))
+    .some((place) => view.some((shown) => touch(shown, place)));
 }
 
 /**
@@ -60,7 +67,8 @@ function target(whole, path) {
 function mayStay({ path, holder, at }, to) {
   if (to.path.length !== path.length) return false;
   if (startsWith(to.path, path)) return true;
-  const isEnd = to.list === null && to.path[path.length - 1] === "-" && startsWith(to.path, path.slice(0, -1));
+  const isEnd =
+    to.list === null && to.path[path.length - 1] === "-" && startsWith(to.path, path.slice(0, -1));
   return isEnd && holder !== null && at !== null && !goesOn(holder, at);
 }
 

@@ -1,4 +1,5 @@
-"""What systemd is told (sd_notify(3)): a datagram to the socket that it names. Without that name nothing is told."""
+"""What systemd is told (sd_notify(3)): a datagram to the socket that it names. Without that name
+nothing is told."""
 from __future__ import annotations
 
 import os
@@ -6,7 +7,8 @@ import socket
 
 
 def notify(*lines: str) -> None:
-    """Tells lines as READY=1. The service manager may be gone or slow; the keeper goes on without it."""
+    """Tells lines as READY=1. The service manager may be gone or slow; the keeper goes on without
+    it."""
     address = os.environ.get("NOTIFY_SOCKET")
     if not address:
         return

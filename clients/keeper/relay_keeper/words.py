@@ -34,8 +34,8 @@ EXPORT = """Prints a line for each room: an object of JSON with the members room
 at (milliseconds since 1970) and document."""
 IMPORT = """Reads such lines as `export` prints. A state is left out if the store has a later
 revision of the same epoch. No keeper may run on the store."""
-STATUS = """Exit status: 0 if it is done; 1 if a name, the store, the relay or another keeper prevents
-it, as a line on standard error says; 2 if the words are no command."""
+STATUS = """Exit status: 0 if it is done; 1 if a name, the store, the relay or another keeper
+prevents it, as a line on standard error says; 2 if the words are no command."""
 
 STORE = """files:FOLDER or just a folder, sqlite:PATH, or postgresql://USER@HOST/DATABASE (this
 needs Debian's python3-psycopg; give the password in PGPASSWORD or ~/.pgpass)"""

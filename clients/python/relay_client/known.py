@@ -73,7 +73,9 @@ def known_by(view: View, slots: Slots) -> Part:
     """What the slots of a view tell of the document."""
     document: Part = UNKNOWN
     # Outer ones first, and values before sizes: what is within a known value tells nothing new.
-    told = sorted(zip(view, slots), key=lambda one: (len(shown_path(one[0])), not isinstance(one[0], str)))
+    told = sorted(
+        zip(view, slots), key=lambda one: (len(shown_path(one[0])), not isinstance(one[0], str))
+    )
     for shown, slot in told:
         document = _told(document, shown_path(shown), _by_slot(shown, slot))
     return document
@@ -149,7 +151,9 @@ def _step(draft: Draft, document: Part, operation: Operation) -> Part:
     part = _there(at(document, origin))
     if op == "move":
         check_move(origin, path)
-        return _added(draft, _removed(draft, document, origin), path, part) if origin != path else document
+        if origin == path:
+            return document
+        return _added(draft, _removed(draft, document, origin), path, part)
     if op == "copy":
         _share(draft, part)
         return _added(draft, document, path, part)
@@ -173,7 +177,11 @@ def _there(part: Part) -> Part:
 def _added(draft: Draft, document: Part, path: Path, new: Part) -> Part:
     if not path:
         return new
-    in_value = (lambda value, rest: draft.added(value, rest, new)) if is_value(new) else (lambda value, rest: UNKNOWN)
+    in_value = (
+        (lambda value, rest: draft.added(value, rest, new))
+        if is_value(new)
+        else (lambda value, rest: UNKNOWN)
+    )
     return _changed(document, path, in_value, lambda parts, token: _inserted(parts, token, new))
 
 
@@ -188,11 +196,16 @@ def _replaced(draft: Draft, document: Part, path: Path, new: Json) -> Part:
         _there(part_at(parts, token))
         return parts.having(token, new, parts.size)
 
-    return _changed(document, path, lambda value, rest: draft.replaced(value, rest, new), exchanged) if path else new
+    if not path:
+        return new
+    return _changed(document, path, lambda value, rest: draft.replaced(value, rest, new), exchanged)
 
 
 def _changed(
-    part: Part, path: Path, in_value: Callable[[Json, Path], Part], in_parts: Callable[[Parts, str], Parts]
+    part: Part,
+    path: Path,
+    in_value: Callable[[Json, Path], Part],
+    in_parts: Callable[[Parts, str], Parts],
 ) -> Part:
     """Goes along a path to a value, or to the container of which the last token is, and changes
     that."""
@@ -201,7 +214,9 @@ def _changed(
     parts, token = _parts(part), path[0]
     if len(path) == 1:
         return in_parts(parts, token)
-    return parts.having(token, _changed(part_at(parts, token), path[1:], in_value, in_parts), parts.size)
+    return parts.having(
+        token, _changed(part_at(parts, token), path[1:], in_value, in_parts), parts.size
+    )
 
 
 def may_be_list(parts: Parts, token: str) -> bool:
@@ -244,7 +259,9 @@ def _unmoved(parts: Parts, token: str) -> Dict[str, Part]:
 
 def slots_of(document: Part, view: View, before: Slots) -> Slots:
     """The slots of a view, each as it was if it is not known what it shows."""
-    return [_slot(shown, at(document, shown_path(shown)), slot) for shown, slot in zip(view, before)]
+    return [
+        _slot(shown, at(document, shown_path(shown)), slot) for shown, slot in zip(view, before)
+    ]
 
 
 def _slot(shown: Shown, part: Part, before: Json) -> Json:

@@ -79,7 +79,8 @@ class Draft:
     others. One that is its own stands at one place, within others that are."""
 
     def __init__(self) -> None:
-        self._own: Dict[int, Json] = {}  # by id; held here, so that none is given the id of one that is gone
+        # By id; held here, so that none is given the id of one that is gone.
+        self._own: Dict[int, Json] = {}
 
     def share(self, part: Json) -> None:
         """It comes to stand at a second place: it is not to be written to any more, nor is anything

@@ -59,7 +59,10 @@ def check_room(url: str) -> None:
         raise ValueError(f"{url}: an address begins with ws://HOST or wss://HOST")
     _, rooms, name = parts.path.rpartition("/rooms/")
     if not rooms or not _ROOM.fullmatch(name):
-        raise ValueError(f"{url}: an address ends with /rooms/NAME, and a name is 1 to 64 ASCII letters, digits, `-` and `_`")
+        raise ValueError(
+            f"{url}: an address ends with /rooms/NAME, and a name is 1 to 64 ASCII letters, "
+            "digits, `-` and `_`"
+        )
 
 
 def watching(url: str) -> str:

@@ -29,7 +29,8 @@ def place_of(document: Part, path: Path, exchanged: bool = False) -> Place:
     if is_value(holder):
         in_list: Optional[bool] = isinstance(holder, list)
     else:
-        in_list = None if may_be_list(holder if isinstance(holder, Parts) else Parts(), token) else False
+        parts = holder if isinstance(holder, Parts) else Parts()
+        in_list = None if may_be_list(parts, token) else False
     if in_list and token == "-":
         return Place((*path[:-1], str(len(holder))), in_list, exchanged)
     return Place(path, in_list, exchanged)
@@ -44,14 +45,18 @@ def touches(document: Part, patch: Iterable[Operation], view: View) -> bool:
             document = step(document, operation, draft)
             continue
         after = step(document, operation)
-        touched = any(_touches(shown, place) for shown in view for place in _places(document, operation))
+        touched = any(
+            _touches(shown, place) for shown in view for place in _places(document, operation)
+        )
         document = after
     return touched
 
 
 def without_origin(document: Part, operation: Operation) -> Part:
     """What an operation adds to: a move has taken its value away by then."""
-    return step(document, {"op": "remove", "path": operation["from"]}) if operation["op"] == "move" else document
+    if operation["op"] != "move":
+        return document
+    return step(document, {"op": "remove", "path": operation["from"]})
 
 
 def _places(document: Part, operation: Operation) -> List[Place]:

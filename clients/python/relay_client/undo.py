@@ -78,7 +78,9 @@ def _comes_to_member(document: Part, operation: Operation) -> bool:
     """Whether it adds something elsewhere than in a list."""
     if operation["op"] not in ("add", "move"):
         return False
-    return not isinstance(at(without_origin(document, operation), tokens(operation["path"])[:-1]), list)
+    return not isinstance(
+        at(without_origin(document, operation), tokens(operation["path"])[:-1]), list
+    )
 
 
 def _target(document: Part, operation: Operation) -> Part:
@@ -90,7 +92,8 @@ def _backwards(document: Part, after: Part, operation: Operation) -> Patch:
     op = operation["op"]
     if op == "test" or (op == "move" and operation["from"] == operation["path"]):
         return []
-    path = place_of(without_origin(document, operation), tokens(operation["path"])).path  # with the index that `-` names
+    # With the index that `-` names.
+    path = place_of(without_origin(document, operation), tokens(operation["path"])).path
     if op == "move" and tokens(operation["from"]) == path:
         return []
     if op == "remove":
@@ -166,7 +169,9 @@ class OwnEdit:
 
     def __init__(self, patch: Patch) -> None:
         self.patch = patch
-        self.inverse: "asyncio.Future[Optional[Inverse]]" = asyncio.get_running_loop().create_future()
+        self.inverse: "asyncio.Future[Optional[Inverse]]" = (
+            asyncio.get_running_loop().create_future()
+        )
         """None if there is nothing that can be undone."""
 
     @property

@@ -35,11 +35,16 @@ def as_json(value: object, path: str = "", depth: int = 0) -> Json:
     if isinstance(value, str):
         return _text(str(value), path)
     if isinstance(value, float):
-        raise ValueError(f"{path}: {value!r} is no whole number; send a scaled whole number, or a text")
+        raise ValueError(
+            f"{path}: {value!r} is no whole number; send a scaled whole number, or a text"
+        )
     if depth >= DEEPEST:
         raise ValueError(f"{path}: nested too deep")
     if isinstance(value, Mapping):
-        return {_name(name, path): as_json(part, f"{path}/{_token(name)}", depth + 1) for name, part in value.items()}
+        return {
+            _name(name, path): as_json(part, f"{path}/{_token(name)}", depth + 1)
+            for name, part in value.items()
+        }
     if isinstance(value, Sequence) and not isinstance(value, (bytes, bytearray, memoryview)):
         return [as_json(part, f"{path}/{place}", depth + 1) for place, part in enumerate(value)]
     raise TypeError(f"{path}: {type(value).__name__} is no JSON")
@@ -70,7 +75,9 @@ def _token(name: object) -> str:
 def same(one: Json, other: Json) -> bool:
     """Equality of JSON values, in which true is not 1."""
     if isinstance(one, dict) and isinstance(other, dict):
-        return one.keys() == other.keys() and all(same(part, other[name]) for name, part in one.items())
+        return one.keys() == other.keys() and all(
+            same(part, other[name]) for name, part in one.items()
+        )
     if isinstance(one, list) and isinstance(other, list):
         return len(one) == len(other) and all(map(same, one, other))
     return type(one) is type(other) and bool(one == other)

@@ -62,7 +62,9 @@ class FakeRelay:
 
     async def begin(self, view, slots, rev=1, epoch=7, **options):
         """A board that is open, with these slots."""
-        board = relay_client.connect(URL, view=view, open_link=self.open_link, first_wait=0, longest_wait=0, **options)
+        board = relay_client.connect(
+            URL, view=view, open_link=self.open_link, first_wait=0, longest_wait=0, **options
+        )
         await self.until_link(1)
         await self.say(welcome(rev, epoch))
         await self.say(watching(self.last["id"]), snapshot(rev, slots))

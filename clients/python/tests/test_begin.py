@@ -1,6 +1,17 @@
 """A room that is given its document on each connection, with a relay that the test plays."""
 import asyncio, unittest
-from fake import URL, FakeRelay, done, refused, relay_client, settle, snapshot, unawaited, watching, welcome
+from fake import (
+    URL,
+    FakeRelay,
+    done,
+    refused,
+    relay_client,
+    settle,
+    snapshot,
+    unawaited,
+    watching,
+    welcome,
+)
 
 EMPTY = {"cards": []}
 BEGIN = [{"op": "test", "path": "", "value": None}, {"op": "add", "path": "", "value": EMPTY}]
@@ -11,7 +22,9 @@ class Begin(unittest.IsolatedAsyncioTestCase):
     async def asyncSetUp(self):
         self.relay = FakeRelay()
         waits = {"first_wait": 0, "longest_wait": 0}
-        self.board = relay_client.connect(URL, view=["/cards"], begin=EMPTY, open_link=self.relay.open_link, **waits)
+        self.board = relay_client.connect(
+            URL, view=["/cards"], begin=EMPTY, open_link=self.relay.open_link, **waits
+        )
 
     async def asyncTearDown(self):
         await self.board.close()
@@ -71,7 +84,9 @@ class Begin(unittest.IsolatedAsyncioTestCase):
 
     async def test_what_is_no_json_is_refused_by_the_call(self):
         with self.assertRaisesRegex(ValueError, "^/begin/cards/0: "):
-            relay_client.connect(URL, view=[""], begin={"cards": [1.5]}, open_link=self.relay.open_link)
+            relay_client.connect(
+                URL, view=[""], begin={"cards": [1.5]}, open_link=self.relay.open_link
+            )
 
 
 if __name__ == "__main__":

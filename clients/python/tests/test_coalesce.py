@@ -71,7 +71,9 @@ class Coalesced(unittest.IsolatedAsyncioTestCase):
         wanted = ["replace /o/x 1", "replace /o/x 2", "replace /o {'x': 3}"]
         await settle()
         self.assertEqual(values(relay.link)[3:], wanted)
-        await relay.say(*(done(request["id"], 2 + k) for k, request in enumerate(relay.link.sent[1:])))
+        await relay.say(
+            *(done(request["id"], 2 + k) for k, request in enumerate(relay.link.sent[1:]))
+        )
         self.assertEqual(values(relay.link)[6:], ["replace /o {'x': 5}"])
         await board.close()
 
@@ -81,7 +83,8 @@ class Coalesced(unittest.IsolatedAsyncioTestCase):
         board = await relay.begin(["/n"], [[0]], on_taken_back=told)
         made = [board.at("/n").set(value) for value in (1, 2, 3)]
         await settle()
-        self.assertEqual(values(relay.link), ["replace /n 3"])  # nothing is sent before the loop goes on
+        # Nothing is sent before the loop goes on.
+        self.assertEqual(values(relay.link), ["replace /n 3"])
         await relay.say(refused(relay.last["id"], "missing", 0))
         for answer in made:
             with self.assertRaises(relay_client.Refused):

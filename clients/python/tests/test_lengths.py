@@ -15,7 +15,9 @@ class Long(unittest.IsolatedAsyncioTestCase):
 
     async def ends(self, **options):
         """A board whose first request would end each of its connections."""
-        self.board = relay_client.connect(URL, open_link=self.relay.open_link, first_wait=0, longest_wait=0, **options)
+        self.board = relay_client.connect(
+            URL, open_link=self.relay.open_link, first_wait=0, longest_wait=0, **options
+        )
         waits = self.board.edit(PUSH)
         await self.relay.until_link(1)
         await self.relay.say(welcome(0))
@@ -24,7 +26,10 @@ class Long(unittest.IsolatedAsyncioTestCase):
         with self.assertRaises(relay_client.Closed):
             await soon(waits)
         link = self.relay.link
-        self.assertEqual((self.board.state, link.sent, link.aborted, len(self.relay.links)), ("closed", [], True, 1))
+        self.assertEqual(
+            (self.board.state, link.sent, link.aborted, len(self.relay.links)),
+            ("closed", [], True, 1),
+        )
 
     async def test_a_document_to_begin_with_ends_the_board(self):
         await self.ends(view=["/cards"], begin="x" * LONGEST)

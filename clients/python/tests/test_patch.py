@@ -20,15 +20,30 @@ def moved(origin, path):
 
 
 ROWS = [
-    ("a container at two places, changed at the second", {"a": [1]}, [copied("/a", "/b"), add("/b/-", 2)], {"a": [1], "b": [1, 2]}),
-    ("and at the first", {"a": [1]}, [add("/a/-", 2), copied("/a", "/b"), add("/a/-", 3)], {"a": [1, 2, 3], "b": [1, 2]}),
+    (
+        "a container at two places, changed at the second",
+        {"a": [1]},
+        [copied("/a", "/b"), add("/b/-", 2)],
+        {"a": [1], "b": [1, 2]},
+    ),
+    (
+        "and at the first",
+        {"a": [1]},
+        [add("/a/-", 2), copied("/a", "/b"), add("/a/-", 3)],
+        {"a": [1, 2, 3], "b": [1, 2]},
+    ),
     (
         "what is within it",
         {"a": {"x": [1]}},
         [add("/a/x/-", 2), copied("/a", "/b"), add("/a/x/-", 3), add("/b/x/-", 4)],
         {"a": {"x": [1, 2, 3]}, "b": {"x": [1, 2, 4]}},
     ),
-    ("a container copied into itself", {"a": [1]}, [add("/a/-", 2), copied("/a", "/a/-"), add("/a/2/-", 3)], {"a": [1, 2, [1, 2, 3]]}),
+    (
+        "a container copied into itself",
+        {"a": [1]},
+        [add("/a/-", 2), copied("/a", "/a/-"), add("/a/2/-", 3)],
+        {"a": [1, 2, [1, 2, 3]]},
+    ),
     ("a value of the patch", {}, [add("/a", [1]), add("/a/-", 2)], {"a": [1, 2]}),
     (
         "a container that moves",
@@ -36,7 +51,12 @@ ROWS = [
         [add("/a/x/-", 2), moved("/a/x", "/b"), add("/b/-", 3), add("/a/y", 4)],
         {"a": {"y": 4}, "b": [1, 2, 3]},
     ),
-    ("a copy in place of what holds it", {"a": {"x": [1]}}, [add("/a/x/-", 2), copied("/a/x", "/a"), add("/a/-", 3)], {"a": [1, 2, 3]}),
+    (
+        "a copy in place of what holds it",
+        {"a": {"x": [1]}},
+        [add("/a/x/-", 2), copied("/a/x", "/a"), add("/a/-", 3)],
+        {"a": [1, 2, 3]},
+    ),
 ]
 
 
@@ -49,7 +69,10 @@ class Writes(unittest.TestCase):
 
     def test_a_value_of_the_patch_that_stands_at_two_places(self):
         value = [[]]
-        self.assertEqual(applied({}, [add("/a", value), add("/b", value), add("/a/0/-", 1)]), {"a": [[1]], "b": [[]]})
+        self.assertEqual(
+            applied({}, [add("/a", value), add("/b", value), add("/a/0/-", 1)]),
+            {"a": [[1]], "b": [[]]},
+        )
         self.assertEqual(value, [[]])
 
     def test_random_patches(self):
@@ -88,7 +111,10 @@ class Copies(unittest.TestCase):
     def test_many_operations_on_a_large_object_cost_few_copies_of_it(self):
         document = {f"m{number}": number for number in range(MEMBERS)}
         removals = [{"op": "remove", "path": f"/m{number}"} for number in range(64)]
-        one, many = (min(self.seconds(document, patch) for _ in range(7)) for patch in (removals[:1], removals))
+        one, many = (
+            min(self.seconds(document, patch) for _ in range(7))
+            for patch in (removals[:1], removals)
+        )
         self.assertLess(many, 24 * one)
 
     def seconds(self, document, patch):

@@ -3,14 +3,17 @@ import asyncio, contextlib, importlib.util, io, os, unittest
 from fake import FakeRelay, patch, refused, relay_client, settle
 
 ROOT = os.path.dirname(os.path.dirname(os.path.dirname(os.path.dirname(os.path.abspath(__file__)))))
-SHAPES = [None, True, 0, 7, "", "text", [], [1], [[1]], [{"0": 1}], {}, {"0": 1}, {"todo": 7, "here": None}, {"todo": {"0": None}}]
+SHAPES = [None, True, 0, 7, "", "text", [], [1], [[1]], [{"0": 1}], {}, {"0": 1}]
+SHAPES += [{"todo": 7, "here": None}, {"todo": {"0": None}}]
 POINTERS = ["", "/todo", "/todo/0", "/todo/0/title", "/here", "/here/ann", "/0", "/-"]
 
 
 class Shapes(unittest.IsolatedAsyncioTestCase):
     async def asyncSetUp(self):
         self.thrown = []
-        asyncio.get_running_loop().set_exception_handler(lambda loop, context: self.thrown.append(context))
+        asyncio.get_running_loop().set_exception_handler(
+            lambda loop, context: self.thrown.append(context)
+        )
 
     async def asyncTearDown(self):
         self.assertEqual(self.thrown, [])
@@ -22,7 +25,9 @@ class Shapes(unittest.IsolatedAsyncioTestCase):
         card.set("eggs")
         self.assertEqual((card.value, board.slots), ("eggs", [[["eggs", "tea"]]]))
         await settle()
-        self.assertEqual(relay.last["patch"], [{"op": "replace", "path": "/cards/0", "value": "eggs"}])
+        self.assertEqual(
+            relay.last["patch"], [{"op": "replace", "path": "/cards/0", "value": "eggs"}]
+        )
         board.at("/cards/2").set("salt")
         self.assertEqual(board.slots, [[["eggs", "tea", "salt"]]])
         await settle()
@@ -43,11 +48,18 @@ class Shapes(unittest.IsolatedAsyncioTestCase):
             place = board.at(pointer)
             with contextlib.suppress(LookupError):
                 place.subscribe(lambda value: None)
-                place.set("new").add_done_callback(lambda answer: answer.cancelled() or answer.exception())
+                place.set("new").add_done_callback(
+                    lambda answer: answer.cancelled() or answer.exception()
+                )
         board.edit([{"op": "move", "from": "/todo/0", "path": "/here/ann"}], optimistic=True)
         await settle()
         for number, slot in enumerate(slots):
-            await relay.say(patch(2 + number, {"op": "replace", "path": f"/{number}", "value": [None] if slot else []}))
+            await relay.say(
+                patch(
+                    2 + number,
+                    {"op": "replace", "path": f"/{number}", "value": [None] if slot else []},
+                )
+            )
         for request in relay.link.sent[1:]:
             await relay.say(refused(request["id"], "no-container", 0))
         self.assertEqual((board.pending, board.state), (0, "open"))

@@ -24,7 +24,11 @@ async def play_relay(socket, *path):
                 await socket.send(json.dumps(message))
             request = json.loads(await socket.recv())
             watches = request.get("do") == "watch"
-            messages = [watching(request["id"]), snapshot(1, [[LONG]])] if watches else [refused(request["id"], "shape")]
+            messages = (
+                [watching(request["id"]), snapshot(1, [[LONG]])]
+                if watches
+                else [refused(request["id"], "shape")]
+            )
 
 
 class SlowLine:
@@ -36,7 +40,9 @@ class SlowLine:
     async def link(self, reader, writer):
         self.connections += 1
         far_reader, far_writer = await asyncio.open_connection("127.0.0.1", self.port)
-        await asyncio.gather(self.pass_on(reader, far_writer, 0), self.pass_on(far_reader, writer, 1 / RATE))
+        await asyncio.gather(
+            self.pass_on(reader, far_writer, 0), self.pass_on(far_reader, writer, 1 / RATE)
+        )
 
     async def pass_on(self, reader, writer, each):
         try:
@@ -62,7 +68,9 @@ async def slow_line():
 
 
 def connected(relay, **times):
-    return relay_client.connect(URL, view=["/n"], open_link=relay.open_link, first_wait=0, longest_wait=0, **times)
+    return relay_client.connect(
+        URL, view=["/n"], open_link=relay.open_link, first_wait=0, longest_wait=0, **times
+    )
 
 
 async def promised(relay, number):
@@ -85,7 +93,9 @@ async def lasts(link):
 
 class Slow(unittest.IsolatedAsyncioTestCase):
     async def test_slots_that_take_longer_than_the_patience_arrive(self):
-        async with slow_line() as line, relay_client.connect(line.url, view=["/long"], **TIMES) as board:
+        async with slow_line() as line, relay_client.connect(
+            line.url, view=["/long"], **TIMES
+        ) as board:
             self.assertEqual(await asyncio.wait_for(board.ready, 20), [[LONG]])
             self.assertLessEqual(line.connections, 4)
 

@@ -1,6 +1,16 @@
 """Undo: of random patches, and of a board's own edits."""
 import asyncio, json, os, random, sys, unittest
-from fake import FakeRelay, done, patch, refused, relay_client, settle, snapshot, unawaited, watching
+from fake import (
+    FakeRelay,
+    done,
+    patch,
+    refused,
+    relay_client,
+    settle,
+    snapshot,
+    unawaited,
+    watching,
+)
 
 sys.path.insert(0, f"{os.path.dirname(os.path.abspath(__file__))}/../../../tests/agreement")
 import cases
@@ -19,7 +29,11 @@ class Inverses(unittest.TestCase):
         chance, undone, noticed = random.Random(5), 0, 0
         for _ in range(CASES):
             document = cases.value(chance, 4)
-            view = [""] if chance.random() < 0.5 else [cases.spelled(cases.walk(chance, document)) for _ in range(3)]
+            view = (
+                [""]
+                if chance.random() < 0.5
+                else [cases.spelled(cases.walk(chance, document)) for _ in range(3)]
+            )
             edit, after = cases.patched(chance, document)
             if after is document:
                 continue
@@ -29,7 +43,9 @@ class Inverses(unittest.TestCase):
                     self.assertEqual(text(after), text(document), (document, edit))
                 continue
             undone += 1
-            self.assertEqual(text(applied(after, undoing.patch)), text(document), (document, view, edit, undoing))
+            self.assertEqual(
+                text(applied(after, undoing.patch)), text(document), (document, view, edit, undoing)
+            )
             # Somebody else changes something behind it: the inverse is refused, or changes nothing
             # of theirs.
             other, changed = cases.patched(chance, after)
@@ -75,7 +91,10 @@ class OnABoard(unittest.IsolatedAsyncioTestCase):
         await editing
 
     async def test_undo_and_redo(self):
-        await self.edit({"op": "replace", "path": "/n", "value": 2}, {"op": "replace", "path": "/0", "value": [2]})
+        await self.edit(
+            {"op": "replace", "path": "/n", "value": 2},
+            {"op": "replace", "path": "/0", "value": [2]},
+        )
         undoing = asyncio.ensure_future(self.board.undo())
         await settle()
         self.assertEqual(
@@ -96,11 +115,17 @@ class OnABoard(unittest.IsolatedAsyncioTestCase):
         await self.edit({"op": "remove", "path": "/cards/0"}, {"op": "remove", "path": "/1/0/0"})
         unawaited(asyncio.ensure_future(self.board.undo()))
         await settle()
-        guarded = [{"op": "test", "path": "/cards/0", "value": "tea"}, {"op": "add", "path": "/cards/0", "value": "milk"}]
+        guarded = [
+            {"op": "test", "path": "/cards/0", "value": "tea"},
+            {"op": "add", "path": "/cards/0", "value": "milk"},
+        ]
         self.assertEqual(self.relay.last["patch"], guarded)
 
     async def test_what_somebody_changed_since_is_not_undone(self):
-        await self.edit({"op": "replace", "path": "/n", "value": 2}, {"op": "replace", "path": "/0", "value": [2]})
+        await self.edit(
+            {"op": "replace", "path": "/n", "value": 2},
+            {"op": "replace", "path": "/0", "value": [2]},
+        )
         undoing = asyncio.ensure_future(self.board.undo())
         await settle()
         await self.relay.say(refused(self.relay.last["id"], "test-failed", 0))
@@ -111,10 +136,15 @@ class OnABoard(unittest.IsolatedAsyncioTestCase):
         self.assertEqual(await self.board.undo(), None)
 
     async def test_a_member_comes_back_on_a_base_alone(self):
-        await self.edit({"op": "remove", "path": "/n"}, {"op": "replace", "path": "/0", "value": []})
+        await self.edit(
+            {"op": "remove", "path": "/n"}, {"op": "replace", "path": "/0", "value": []}
+        )
         undoing = asyncio.ensure_future(self.board.undo())
         await settle()
-        self.assertEqual((self.relay.last["base"], self.relay.last["patch"]), (2, [{"op": "add", "path": "/n", "value": 1}]))
+        self.assertEqual(
+            (self.relay.last["base"], self.relay.last["patch"]),
+            (2, [{"op": "add", "path": "/n", "value": 1}]),
+        )
         # Somebody put another one there.
         await self.relay.say(refused(self.relay.last["id"], "stale", rev=3))
         await self.relay.say(watching(self.relay.last["id"]), snapshot(3, [[7], [[]]]))
@@ -123,7 +153,10 @@ class OnABoard(unittest.IsolatedAsyncioTestCase):
         self.assertEqual(raised.exception.fault, "changed")
 
     async def test_an_edit_that_the_slots_did_not_show_alone_is_passed_over(self):
-        await self.edit({"op": "replace", "path": "/n", "value": 2}, {"op": "replace", "path": "/0", "value": [2]})
+        await self.edit(
+            {"op": "replace", "path": "/n", "value": 2},
+            {"op": "replace", "path": "/0", "value": [2]},
+        )
         self.board.edit([{"op": "replace", "path": "/n", "value": 3}], optimistic=True)
         await settle()
         self.rev = 9
