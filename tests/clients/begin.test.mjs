@@ -35,7 +35,7 @@ test("what is edited while the relay restarts goes in behind it", async (t) => {
   assert.deepEqual([board.slots, board.epoch], [[[["milk", "bread"]]], 2]);
 });
 
-test("it is sent on each connection, before the view, and before an edit that waited or is sent again", async (t) => {
+test("on each connection it goes before the view, and before an edit that waited", async (t) => {
   const said = [];
   const sockets = class extends scripted(({ id, ...request }, tell) => {
     said.push(request);
@@ -53,12 +53,21 @@ test("it is sent on each connection, before the view, and before an edit that wa
       sockets.newest = this;
     }
   };
-  const board = connect("ws://127.0.0.1:1/rooms/a", { view: ["/items"], begin: LIST, WebSocket: sockets, firstWait: 1 });
+  const board = connect("ws://127.0.0.1:1/rooms/a", {
+    view: ["/items"],
+    begin: LIST,
+    WebSocket: sockets,
+    firstWait: 1,
+  });
   t.after(() => board.close());
   const waits = add("waits");
   board.edit(waits).catch(() => {});
   await board.ready;
-  assert.deepEqual(said.splice(0), [{ do: "edit", patch: BEGIN }, { do: "watch", view: ["/items"] }, { do: "edit", patch: waits }]);
+  assert.deepEqual(said.splice(0), [
+    { do: "edit", patch: BEGIN },
+    { do: "watch", view: ["/items"] },
+    { do: "edit", patch: waits },
+  ]);
   const again = add("again");
   board.edit(again, { base: 1 }).catch(() => {});
   sockets.newest.onclose({});
@@ -83,15 +92,28 @@ test("one whose text would end the connection is not sent, and closes the board"
   const states = [];
   const onState = (state, cause) => states.push([state, cause?.fault]);
   const board = connect(newRoom(), { view: [], begin: "x".repeat(1_056_768), onState });
-  await assert.rejects(board.ready, (error) => error instanceof Refused && error.fault === "too-long" && error.at === null);
+  await assert.rejects(
+    board.ready,
+    (error) => error instanceof Refused && error.fault === "too-long" && error.at === null,
+  );
   assert.deepEqual(states, [["closed", "too-long"]]);
 });
 
 test("another refusal of it closes the board", async () => {
   const url = newRoom();
   const states = [];
-  const board = connect(url, { view: [], begin: "x".repeat(300_000), onState: (state, cause) => states.push([state, cause?.fault]) });
-  await assert.rejects(board.ready, (error) => error instanceof Refused && error.fault === "too-heavy" && error.at === 1);
+  const board = connect(url, {
+    view: [],
+    begin: "x".repeat(300_000),
+    onState: (state, cause) => states.push([state, cause?.fault]),
+  });
+  await assert.rejects(
+    board.ready,
+    (error) => error instanceof Refused && error.fault === "too-heavy" && error.at === 1,
+  );
   assert.deepEqual(states, [["closed", "too-heavy"]]);
-  assert.throws(() => connect(url, { view: [], begin: { items: [0.5] } }), { name: "TypeError", message: /^\/begin\/items\/0 is 0.5/ });
+  assert.throws(() => connect(url, { view: [], begin: { items: [0.5] } }), {
+    name: "TypeError",
+    message: /^\/begin\/items\/0 is 0.5/,
+  });
 });

@@ -10,11 +10,22 @@ class Browser:
     async def begin(cls, program):
         browser = cls()
         browser.folder = tempfile.mkdtemp()
-        flags = ["--headless=new", "--disable-gpu", "--remote-debugging-port=0", f"--user-data-dir={browser.folder}"]
-        flags += ["--disable-background-timer-throttling", "--disable-renderer-backgrounding", "--remote-allow-origins=*"]
+        flags = [
+            "--headless=new",
+            "--disable-gpu",
+            "--remote-debugging-port=0",
+            f"--user-data-dir={browser.folder}",
+        ]
+        flags += [
+            "--disable-background-timer-throttling",
+            "--disable-renderer-backgrounding",
+            "--remote-allow-origins=*",
+        ]
         flags += ["--no-sandbox"] if os.getuid() == 0 else []
         nowhere = asyncio.subprocess.DEVNULL
-        browser.process = await asyncio.create_subprocess_exec(program, *flags, stdout=nowhere, stderr=nowhere)
+        browser.process = await asyncio.create_subprocess_exec(
+            program, *flags, stdout=nowhere, stderr=nowhere
+        )
         told = f"{browser.folder}/DevToolsActivePort"
         while not (os.path.exists(told) and os.path.getsize(told)):
             await asyncio.sleep(0.05)
@@ -59,7 +70,9 @@ class Page:
 
     async def evaluate(self, expression):
         """What an expression is, or what it promises."""
-        answer = await self.say("Runtime.evaluate", expression=expression, awaitPromise=True, returnByValue=True)
+        answer = await self.say(
+            "Runtime.evaluate", expression=expression, awaitPromise=True, returnByValue=True
+        )
         return answer["result"].get("value")
 
     async def until(self, expression, wanted):

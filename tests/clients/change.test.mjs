@@ -80,7 +80,7 @@ test("guards: the revision, and nothing", async (t) => {
   assert.deepEqual(await board.sync(), [[9]]);
 });
 
-test("a change before the first slots waits for them, and one made while away for the connection", async (t) => {
+test("a change waits for the first slots, and one made away for the connection", async (t) => {
   const sockets = cuttable();
   const url = await begunRoom(CARDS);
   const shared = room(url, { WebSocket: sockets, firstWait: 10, onState: () => {} });
@@ -111,7 +111,7 @@ test("a list: what is meant is the element that was shown, wherever it is by the
   assert.throws(() => list.remove(9), RangeError);
 });
 
-test("elements by a key: found, changed, moved and removed, wherever they are by then", async (t) => {
+test("elements by a key: found, changed, moved and removed, wherever they are then", async (t) => {
   const [board, other] = await boardsOf(t, await begunRoom(CARDS), ["/cards"], ["/cards"]);
   const [cards, theirs] = [board, other].map((one) => one.at("/cards").byKey("id"));
   assert.deepEqual([cards.get("b").text, cards.indexOf("m")], ["bread", 0]);
@@ -134,7 +134,11 @@ test("elements by a key: found, changed, moved and removed, wherever they are by
   assert.deepEqual(shown, [{ id: "b", text: "bread!", done: true }, { id: "e", text: "eggs" }]);
   await cards.move("b", null);
   assert.deepEqual(texts(board.at("/cards")), ["eggs", "bread!"]);
-  const acts = [() => cards.remove("m"), () => cards.move("b", "m"), () => cards.change("m", () => {})];
+  const acts = [
+    () => cards.remove("m"),
+    () => cards.move("b", "m"),
+    () => cards.change("m", () => {}),
+  ];
   for (const act of [...acts, () => cards.insert({ id: "x" }, "m")]) {
     await assert.rejects(act(), isRefused("missing"));
   }

@@ -18,16 +18,25 @@ export function randomValue(random, depth) {
   if (kind < 2) return pick(random, SCALARS);
   const size = random(5);
   if (kind === 2) return Array.from({ length: size }, () => randomValue(random, depth - 1));
-  return Object.fromEntries(NAMES.slice(0, size).map((name) => [name, randomValue(random, depth - 1)]));
+  return Object.fromEntries(
+    NAMES.slice(0, size).map((name) => [name, randomValue(random, depth - 1)]),
+  );
 }
 
 export function randomDocument(random) {
   const list = (depth) => Array.from({ length: random(6) }, () => randomValue(random, depth));
-  return { list: list(0), cards: list(2), people: randomObject(random), title: pick(random, SCALARS) };
+  return {
+    list: list(0),
+    cards: list(2),
+    people: randomObject(random),
+    title: pick(random, SCALARS),
+  };
 }
 
 function randomObject(random) {
-  return Object.fromEntries(NAMES.filter(() => random(2) === 0).map((name) => [name, randomValue(random, 2)]));
+  return Object.fromEntries(
+    NAMES.filter(() => random(2) === 0).map((name) => [name, randomValue(random, 2)]),
+  );
 }
 
 /** A function that changes a document, the same way each time for the same document. */
@@ -74,7 +83,12 @@ function within(document, number) {
 }
 
 function listOf(document, number) {
-  const looks = [() => document.list, () => document.cards, () => document.people?.a, () => document.cards?.[0]];
+  const looks = [
+    () => document.list,
+    () => document.cards,
+    () => document.people?.a,
+    () => document.cards?.[0],
+  ];
   const list = looks[number % 4]();
   return Array.isArray(list) ? list : Array.isArray(document.list) ? document.list : [];
 }
@@ -84,30 +98,42 @@ const STEPS = {
   unshift: (_, { list, value }) => void list.unshift(value),
   pop: (_, { list }) => void list.pop(),
   shift: (_, { list }) => void list.shift(),
-  splice: (_, { list, c, d, value }) => void list.splice(c % 4, d % 3, ...(d % 2 === 0 ? [value] : [])),
+  splice: (_, { list, c, d, value }) =>
+    void list.splice(c % 4, d % 3, ...(d % 2 === 0 ? [value] : [])),
   cut: (_, { list, c }) => void list.splice(-(c % 3)),
   reverse: (_, { list }) => void list.reverse(),
   sort: (_, { list }) => void list.sort((x, y) => (JSON.stringify(x) < JSON.stringify(y) ? -1 : 1)),
   setAt: (_, { list, c, value }) => void (c % 6 < list.length && (list[c % 6] = value)),
   length: (_, { list, c }) => void (list.length = Math.min(list.length, c % 4)),
   rotate: (_, { list }) => void (list.length > 0 && list.push(list.shift())),
-  filter: (document) => void (Array.isArray(document.list) && (document.list = document.list.filter((x) => x !== 1))),
-  map: (document) => void (Array.isArray(document.list) && (document.list = document.list.map((x) => (x === "a" ? "A" : x)))),
+  filter: (document) =>
+    void (Array.isArray(document.list) && (document.list = document.list.filter((x) => x !== 1))),
+  map: (document) =>
+    void (
+      Array.isArray(document.list) &&
+      (document.list = document.list.map((x) => (x === "a" ? "A" : x)))
+    ),
   blind: (document, { value }) => void (document.list = [value, "a"]),
   within: (document, { c, value }) => void (document.made ??= { list: [] }).list.push(c, value),
-  set: (_, { container, c, value }) => void (!Array.isArray(container) && (container[NAMES[c % 4]] = value)),
-  setDefault: (_, { container, c, value }) => void (!Array.isArray(container) && (container[NAMES[c % 4]] ??= value)),
+  set: (_, { container, c, value }) =>
+    void (!Array.isArray(container) && (container[NAMES[c % 4]] = value)),
+  setDefault: (_, { container, c, value }) =>
+    void (!Array.isArray(container) && (container[NAMES[c % 4]] ??= value)),
   drop: (_, { container, c }) => void (!Array.isArray(container) && delete container[NAMES[c % 4]]),
   add: (document) => void (typeof document.title === "number" && (document.title += 1)),
   same: (document) => void (document.title = "a"),
   count: (document) => void (document.count = Object.keys(document.people ?? {}).length),
-  each: (_, { list }) => list.forEach((x) => isContainer(x) && !Array.isArray(x) && (x.seen = true)),
+  each: (_, { list }) =>
+    list.forEach((x) => isContainer(x) && !Array.isArray(x) && (x.seen = true)),
   find(_, { list, c }) {
     const at = list.findIndex((x) => x === SCALARS[c % 8]);
     if (at >= 0) list.splice(at, 1);
   },
   some: (document, { list, c }) => void (list.includes(SCALARS[c % 8]) && (document.found = c)),
-  moveAcross: (document, { list }) => void (Array.isArray(document.list) && list.length > 0 && document.list.push(...list.splice(0, 1))),
+  moveAcross: (document, { list }) =>
+    void (
+      Array.isArray(document.list) && list.length > 0 && document.list.push(...list.splice(0, 1))
+    ),
   moveMember(document, { c }) {
     const people = document.people;
     if (!isContainer(people) || Array.isArray(people) || !(NAMES[c % 4] in people)) return;
@@ -128,7 +154,12 @@ const STEPS = {
     list[one] = list[other];
     list[other] = before;
   },
-  copy: (document, { list }) => void (Array.isArray(document.list) && list.length > 0 && (document.copied = JSON.parse(JSON.stringify(list[0])))),
+  copy: (document, { list }) =>
+    void (
+      Array.isArray(document.list) &&
+      list.length > 0 &&
+      (document.copied = JSON.parse(JSON.stringify(list[0])))
+    ),
   wrap: (document, { list }) => void (document.wrapped = { first: list.slice(0, 1) }),
 };
 
@@ -140,11 +171,19 @@ export function randomOther(random, document) {
   const places = [...paths(document, "")];
   const [path, value] = pick(random, places);
   const made = randomValue(random, 1);
-  const isAlike = !isContainer(made) || !isContainer(value) || Array.isArray(made) === Array.isArray(value);
+  const isAlike =
+    !isContainer(made) || !isContainer(value) || Array.isArray(made) === Array.isArray(value);
   if (random(3) === 0 && isAlike) return [{ op: "replace", path, value: made }];
-  if (Array.isArray(value)) return [{ op: "add", path: `${path}/${random(value.length + 1)}`, value: made }];
-  if (isContainer(value)) return [{ op: "add", path: `${path}/${pick(random, NAMES).replaceAll("~", "~0").replaceAll("/", "~1")}`, value: made }];
-  return [{ op: path === "" ? "replace" : "remove", path, ...(path === "" ? { value: made } : {}) }];
+  if (Array.isArray(value)) {
+    return [{ op: "add", path: `${path}/${random(value.length + 1)}`, value: made }];
+  }
+  if (isContainer(value)) {
+    const token = pick(random, NAMES).replaceAll("~", "~0").replaceAll("/", "~1");
+    return [{ op: "add", path: `${path}/${token}`, value: made }];
+  }
+  return [
+    { op: path === "" ? "replace" : "remove", path, ...(path === "" ? { value: made } : {}) },
+  ];
 }
 
 function* paths(value, path) {

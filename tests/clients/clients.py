@@ -16,8 +16,22 @@ from players import ROOT, InBrowser, InGo, InJava, InNode, InPython
 from server import Proxy, Relay
 
 ROOM = "play"
-BEGUN = {"log": [], "count": 0, "changed": 0, "n": 0, "once": {}, "lists": {"a": [1, 2, 3], "b": [], "c": [{"k": [0]}]}}
-VIEWS = [[""], ["/log"], ["/lists/a", "/lists/b"], ["/lists/a/0", "/n"], ["/lists", "/none"], ["/lists/a/1", "/lists/c/0/k", "/lists/a"]]
+BEGUN = {
+    "log": [],
+    "count": 0,
+    "changed": 0,
+    "n": 0,
+    "once": {},
+    "lists": {"a": [1, 2, 3], "b": [], "c": [{"k": [0]}]},
+}
+VIEWS = [
+    [""],
+    ["/log"],
+    ["/lists/a", "/lists/b"],
+    ["/lists/a/0", "/n"],
+    ["/lists", "/none"],
+    ["/lists/a/1", "/lists/c/0/k", "/lists/a"],
+]
 CHECKS = 6
 """How many quiet moments a seed has."""
 COUNTS = "c"
@@ -32,12 +46,21 @@ class Wrong(Exception):
 
 class Play:
     def __init__(self, seed, program, node, browser):
-        self.chance, self.program, self.node, self.browser = random.Random(seed), program, node, browser
+        self.chance, self.program = random.Random(seed), program
+        self.node, self.browser = node, browser
         self.numbers = itertools.count()
         self.run = 0  # which run of the relay this is
-        self.edits = {}  # by its tag: the run that it began in, the one that it was answered in, and the answer
+        # By its tag: the run that it began in, the one that it was answered in, and the answer.
+        self.edits = {}
         self.counted = 0  # the revision of the newest count
-        self.counts = {"done": 0, "Refused": 0, "Unknown": 0, "of these by a revision": 0, "cuts": 0, "restarts": 0}
+        self.counts = {
+            "done": 0,
+            "Refused": 0,
+            "Unknown": 0,
+            "of these by a revision": 0,
+            "cuts": 0,
+            "restarts": 0,
+        }
 
     async def play(self):
         self.proxy = Proxy(late=lambda: self.chance.choice([0, 0, 0.003, 0.02]))
@@ -69,7 +92,10 @@ class Play:
         self.run += 1
         history, outbox = self.chance.choice([1, 2, 4, 64, 64]), self.chance.choice([1, 2, 32])
         self.relay = await Relay.begin(self.program, self.epoch(), history, outbox)
-        begin = [{"op": "test", "path": "", "value": None}, {"op": "add", "path": "", "value": BEGUN}]
+        begin = [
+            {"op": "test", "path": "", "value": None},
+            {"op": "add", "path": "", "value": BEGUN},
+        ]
         await self.relay.request(ROOM, {"do": "edit", "patch": begin}, "done")
         await self.relay.raise_to(ROOM, rev)
         self.proxy.port = self.relay.port
@@ -85,7 +111,9 @@ class Play:
         self.proxy.port = None
         await self.relay.end()
         counting = [self.count(player) for player in self.players]
-        await asyncio.gather(self.start(self.chance.choice([0, rev, rev + 1, self.counted])), *counting)
+        await asyncio.gather(
+            self.start(self.chance.choice([0, rev, rev + 1, self.counted])), *counting
+        )
 
     # What happens.
 
@@ -96,7 +124,9 @@ class Play:
             what = self.chance.random()
             if what < 0.06:
                 self.counts["cuts"] += 1
-                self.proxy.cut(lambda: self.chance.random() < 0.5, near=lambda: self.chance.random() < 0.5)
+                self.proxy.cut(
+                    lambda: self.chance.random() < 0.5, near=lambda: self.chance.random() < 0.5
+                )
             elif what < 0.1:
                 view = self.chance.choice(VIEWS)
                 editing.append(asyncio.ensure_future(self.chance.choice(self.players).watch(view)))
@@ -137,7 +167,11 @@ class Play:
         self.counts["of these by a revision"] += answer.get("known") is not None
         if "rev" in answer and "base" in answer and answer["rev"] != answer["base"] + 1:
             raise Wrong(f"{tag} was done on another revision than its base: {answer}")
-        if answer.get("fails") == "Unknown" and answer.get("known") is None and self.is_again(answer, began):
+        if (
+            answer.get("fails") == "Unknown"
+            and answer.get("known") is None
+            and self.is_again(answer, began)
+        ):
             raise Wrong(f"{tag} was not sent again: {answer}")
         return answer
 
@@ -146,7 +180,8 @@ class Play:
 
     def operation(self):
         """One that is refused now and then."""
-        place = lambda: f"/lists/{self.chance.choice('abc')}/{self.chance.choice(['0', '0', '1', '2', '-'])}"
+        pick = self.chance.choice
+        place = lambda: f"/lists/{pick('abc')}/{pick(['0', '0', '1', '2', '-'])}"
         value = self.chance.choice([0, None, "ä~/", {"k": [1]}, [[]], {"a/b": {"m~n": 7}}])
         op = self.chance.choice(["add", "add", "add", "remove", "replace", "move", "copy", "raise"])
         if op == "raise":
@@ -215,8 +250,10 @@ async def play(seeds, first, browser):
             await player.play()
         except Wrong as wrong:
             sys.exit(f"seed {seed}: {wrong}")
-        print(f"seed {seed}: " + ", ".join(f"{count} {word}" for word, count in player.counts.items()), flush=True)
-    print(f"{seeds} seeds in {time.monotonic() - begun:.0f} seconds, {'with' if browser else 'without'} a browser")
+        counts = ", ".join(f"{count} {word}" for word, count in player.counts.items())
+        print(f"seed {seed}: {counts}", flush=True)
+    took, beside = time.monotonic() - begun, "with" if browser else "without"
+    print(f"{seeds} seeds in {took:.0f} seconds, {beside} a browser")
 
 
 async def main(seeds=20, first=1):

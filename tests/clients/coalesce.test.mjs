@@ -57,7 +57,10 @@ test("of the values that are set while one is on its way the newest is sent", as
   const told = [];
   n.subscribe((value) => told.push(value));
   const made = [1, 2, 3, 4].map((value) => n.set(value));
-  assert.deepEqual([sent, told, n.confirmed, board.pending], [["replace /n 1"], [1, 2, 3, 4], 0, 2]);
+  assert.deepEqual(
+    [sent, told, n.confirmed, board.pending],
+    [["replace /n 1"], [1, 2, 3, 4], 0, 2],
+  );
   await done();
   assert.deepEqual([sent, n.value, board.pending], [["replace /n 1", "replace /n 4"], 4, 1]);
   made.push(n.set(5));
@@ -117,7 +120,10 @@ test("a board that is closed sends what waits", async (t) => {
 
 test("what adds, or is sent again where its answer was lost, is sent each time", async (t) => {
   const begin = { list: [], n: 0, once: {} };
-  const [board] = await boardsOf(t, await begunRoom(begin), { view: ["/list", "/n"], once: "/once" });
+  const [board] = await boardsOf(t, await begunRoom(begin), {
+    view: ["/list", "/n"],
+    once: "/once",
+  });
   const list = board.at("/list/-");
   const made = [list.set("a"), list.set("b")];
   for (const value of [1, 2]) made.push(board.at("/n").set(value, { once: true }));
@@ -130,11 +136,20 @@ test("what adds, or is sent again where its answer was lost, is sent each time",
 
 test("what is set while away is one edit, also where it is kept for another page", async (t) => {
   const kept = new Map();
-  const storage = { getItem: (key) => kept.get(key) ?? null, setItem: (key, text) => kept.set(key, text), removeItem: (key) => kept.delete(key) };
+  const storage = {
+    getItem: (key) => kept.get(key) ?? null,
+    setItem: (key, text) => kept.set(key, text),
+    removeItem: (key) => kept.delete(key),
+  };
   const WebSocket = cuttable();
   const url = await begunRoom({ x: 0, y: 0 });
   const view = ["/x", "/y"];
-  const [board, other] = await boardsOf(t, url, { view, storage, storageKey: "kept", WebSocket }, [""]);
+  const [board, other] = await boardsOf(
+    t,
+    url,
+    { view, storage, storageKey: "kept", WebSocket },
+    [""],
+  );
   WebSocket.cut(true);
   await until(() => board.state !== "open");
   for (const value of [1, 2, 3]) for (const name of view) board.at(name).set(value);
@@ -166,7 +181,9 @@ function chosen(random, k) {
   const places = ["/a", "/a/x", "/a/y", "/list", "/list/0", "/n", "/n", "/n"];
   const path = places[random(places.length)];
   if (random(5) > 0) return { path, value: { "/a": { x: k, y: k }, "/list": [k, k] }[path] ?? k };
-  return random(2) === 0 ? { op: "add", path: "/list/0", value: k } : { op: "replace", path: "/list", value: [] };
+  return random(2) === 0
+    ? { op: "add", path: "/list/0", value: k }
+    : { op: "replace", path: "/list", value: [] };
 }
 
 test("the document comes to what each value and edit by itself leads to", async (t) => {

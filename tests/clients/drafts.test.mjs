@@ -44,7 +44,7 @@ test("the patch of a random draft leads to what the function makes of the value 
   }
 });
 
-test("where the guard holds on another document, the patch does there what the function does", () => {
+test("where the guard holds on another document, the patch does what the function does", () => {
   const counts = { held: 0, refused: 0, based: 0 };
   for (let seed = 1; seed <= ROUNDS; seed += 1) {
     const random = chance(seed);
@@ -60,7 +60,8 @@ test("where the guard holds on another document, the patch does there what the f
     counts[led === null ? "refused" : "held"] += 1;
     if (led === null) continue;
     const plain = structuredClone(other);
-    const words = `seed ${seed}: ${JSON.stringify([document, other])} ${make.words} ${JSON.stringify(made)}`;
+    const words =
+      `seed ${seed}: ${JSON.stringify([document, other])} ${make.words} ${JSON.stringify(made)}`;
     assert.doesNotThrow(() => make(plain), words);
     assert.deepEqual(led, plain, words);
   }
@@ -68,7 +69,11 @@ test("where the guard holds on another document, the patch does there what the f
 });
 
 test("a guard refuses where what was read or addressed is another", () => {
-  const document = { cards: [{ t: "milk", n: 1 }, { t: "bread", n: 2 }], title: "Party", people: {} };
+  const document = {
+    cards: [{ t: "milk", n: 1 }, { t: "bread", n: 2 }],
+    title: "Party",
+    people: {},
+  };
   const refused = (make, operation) => {
     const { made } = drafted(document, make);
     assert.equal(appliedOrNull(applied(document, [operation]), made.patch), null, String(make));
@@ -82,7 +87,11 @@ test("a guard refuses where what was read or addressed is another", () => {
   refused((d) => d.cards.reverse(), insert);
   refused((d) => (d.title += "!"), { op: "replace", path: "/title", value: "x" });
   refused((d) => (d.people.ann ??= {}), { op: "add", path: "/people/ann", value: { age: 3 } });
-  refused((d) => (d.count = Object.keys(d.people).length), { op: "add", path: "/people/ann", value: 1 });
+  refused((d) => (d.count = Object.keys(d.people).length), {
+    op: "add",
+    path: "/people/ann",
+    value: 1,
+  });
   refused((d) => (d.count = d.cards.length), insert);
   refused((d) => (d.cards.find(({ t }) => t === "bread").n = 7), insert);
   refused((d) => d.cards.push(d.cards[0]), { op: "replace", path: "/cards/0/n", value: 9 });
@@ -90,10 +99,14 @@ test("a guard refuses where what was read or addressed is another", () => {
 
 test("a patch has the least operations, and moves what moved", () => {
   const document = { a: ["x", "y", "z", "w"], b: [{ k: 1 }, { k: 2 }], o: { m: { v: [1] } } };
-  const operations = (make) => patchOf(document, make).map(({ op, from, path }) => [op, from, path].filter((word) => word !== undefined).join(" "));
+  const words = ({ op, from, path }) =>
+    [op, from, path].filter((word) => word !== undefined).join(" ");
+  const operations = (make) => patchOf(document, make).map(words);
   assert.deepEqual(operations((d) => d.a.push("v")), ["add /a/-"]);
   assert.deepEqual(operations((d) => d.a.splice(1, 1)), ["remove /a/1"]);
-  assert.deepEqual(operations((d) => void (d.a = d.a.filter((word) => word !== "y"))), ["remove /a/1"]);
+  assert.deepEqual(operations((d) => void (d.a = d.a.filter((word) => word !== "y"))), [
+    "remove /a/1",
+  ]);
   assert.deepEqual(operations((d) => d.a.push(d.a.shift())), ["move /a/0 /a/-"]);
   assert.deepEqual(operations((d) => d.a.unshift(...d.a.splice(2, 1))), ["move /a/2 /a/0"]);
   assert.deepEqual(operations((d) => d.a.sort()), ["move /a/3 /a/0"]);
@@ -103,7 +116,10 @@ test("a patch has the least operations, and moves what moved", () => {
   assert.deepEqual(operations((d) => (d.b[0].k += 1)), ["replace /b/0/k"]);
   assert.deepEqual(operations((d) => d.a.push(...d.b.splice(0, 1))), ["move /b/0 /a/-"]);
   assert.deepEqual(operations((d) => void ((d.p = d.o.m), delete d.o.m)), ["move /o/m /p"]);
-  assert.deepEqual(operations((d) => void ((d.o.n = d.o.m), delete d.o.m, d.o.n.v.push(2))), ["move /o/m /o/n", "add /o/n/v/-"]);
+  assert.deepEqual(operations((d) => void ((d.o.n = d.o.m), delete d.o.m, d.o.n.v.push(2))), [
+    "move /o/m /o/n",
+    "add /o/n/v/-",
+  ]);
   assert.deepEqual(operations((d) => d.b.splice(0, 2)), ["remove /b/1", "remove /b/0"]);
   assert.deepEqual(operations((d) => void d.a.length), []);
   assert.deepEqual(operations((d) => (d.o.m.v[0] = 1)), []);
@@ -118,7 +134,9 @@ test("a patch that would be too long is coarser, and one with too many tests has
   const { made, plain } = drafted(document, (d) => d.list.reverse());
   assert.deepEqual([made.isByBase, made.patch.length], [true, 1]);
   assert.deepEqual(applied(document, made.patch), plain);
-  const many = drafted(document, (d) => void (d.sum = Array.from({ length: 70 }, (_, k) => d.list[k]).reduce((a, b) => a + b)));
+  const many = drafted(document, (d) => {
+    d.sum = Array.from({ length: 70 }, (_, k) => d.list[k]).reduce((a, b) => a + b);
+  });
   assert.deepEqual([many.made.isByBase, many.made.patch.length], [true, 1]);
 });
 
@@ -140,7 +158,10 @@ test("what a draft cannot be is said", () => {
   root.people.ann = { age: 3 };
   root.lists[0] = "y";
   const { patch, isByBase } = guarded(draft, "values");
-  assert.deepEqual(patch.map(({ op, path }) => `${op} ${path}`), ["add /people/ann", "replace /lists/0"]);
+  assert.deepEqual(patch.map(({ op, path }) => `${op} ${path}`), [
+    "add /people/ann",
+    "replace /lists/0",
+  ]);
   // No test says that nothing stood at a place of which the holder is not shown.
   assert.equal(isByBase, true);
   assert.throws(() => new Draft(knownBy([""], [[5]])), TypeError);

@@ -3,7 +3,10 @@
 "use strict";
 globalThis.play = ({ connect }, url, view) => {
   const handed = []; // slots that were handed out, and what they were then
-  const onChange = ({ slots }) => (handed.push([slots, JSON.stringify(slots)]), handed.splice(0, handed.length - 20));
+  const onChange = ({ slots }) => {
+    handed.push([slots, JSON.stringify(slots)]);
+    handed.splice(0, handed.length - 20);
+  };
   const waits = { firstWait: 10, longestWait: 100, onState: () => {} };
   const board = connect(url, { view, once: "/once", onChange, ...waits });
   const counter = connect(url, { view: ["/count"], ...waits });
@@ -42,7 +45,13 @@ globalThis.play = ({ connect }, url, view) => {
         // The last line was written without it.
         lines.at(-1)?.back.push(k);
       };
-      this.board ??= connect(url, { view, onChange: () => this.line(), onTakenBack, WebSocket: Noting, ...waits });
+      this.board ??= connect(url, {
+        view,
+        onChange: () => this.line(),
+        onTakenBack,
+        WebSocket: Noting,
+        ...waits,
+      });
       return this.board;
     },
   };
@@ -102,8 +111,15 @@ globalThis.play = ({ connect }, url, view) => {
     watch: async ({ view }) => ({ slots: await board.watch(view) }),
     look: async () => {
       const { view, slots, rev, state } = board;
-      return { view, slots, rev, state, spoiled: handed.some(([value, text]) => JSON.stringify(value) !== text) };
+      return {
+        view,
+        slots,
+        rev,
+        state,
+        spoiled: handed.some(([value, text]) => JSON.stringify(value) !== text),
+      };
     },
   };
-  return (asked) => jobs[asked.do](asked).catch(({ name, fault, message }) => ({ fails: name, fault: fault ?? message }));
+  const failed = ({ name, fault, message }) => ({ fails: name, fault: fault ?? message });
+  return (asked) => jobs[asked.do](asked).catch(failed);
 };

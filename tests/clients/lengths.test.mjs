@@ -5,15 +5,19 @@ import { test } from "node:test";
 import { Refused, connect } from "../../clients/javascript/relay.mjs";
 import { boards, newRoom } from "./rooms.mjs";
 
-const isTooLong = (error) => error instanceof Refused && error.fault === "too-long" && error.at === null;
+const isTooLong = (error) =>
+  error instanceof Refused && error.fault === "too-long" && error.at === null;
 const TOO_LONG = "/" + "x".repeat(1_056_768);
 
-test("an edit that is too long is refused, whoever refuses it, and the connection stays", async (t) => {
+test("an edit that is too long is refused, by either side, and the connection stays", async (t) => {
   const states = [];
   const [board] = await boards(t, { view: ["/title"], onState: (state) => states.push(state) });
   for (const value of ["x".repeat(1_050_000), TOO_LONG, "€".repeat(360_000)]) {
     for (const options of [{}, { base: board.rev }, { optimistic: true }]) {
-      await assert.rejects(board.edit([{ op: "replace", path: "/title", value }], options), isTooLong);
+      await assert.rejects(
+        board.edit([{ op: "replace", path: "/title", value }], options),
+        isTooLong,
+      );
     }
   }
   assert.deepEqual([states, board.pending, board.slots], [["open"], 0, [["Shopping"]]]);

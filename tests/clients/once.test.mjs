@@ -31,7 +31,9 @@ function lossy(sends) {
 
 test("each is done once, in order, and counted in the document", async (t) => {
   const [, board, other] = await counted(t);
-  const done = await Promise.all([1, 2, 3].map((n) => board.edit(push(n), { once: true, optimistic: true })));
+  const done = await Promise.all(
+    [1, 2, 3].map((n) => board.edit(push(n), { once: true, optimistic: true })),
+  );
   const [{ cards, counters }] = (await other.sync())[0];
   assert.deepEqual([cards, Object.values(counters)], [[1, 2, 3], [3]]);
   assert.deepEqual(done, [3, 4, 5]);
@@ -73,7 +75,8 @@ test("what is asked for behind one that waits stays behind it", async (t) => {
 test("a refusal of its patch stays one, also of what may be read late", async (t) => {
   const [, board] = await counted(t);
   const wrong = [{ op: "test", path: "/cards", value: ["no"] }, ...push(1)];
-  const isRefused = (error) => error instanceof Refused && error.fault === "test-failed" && error.at === 0;
+  const isRefused = (error) =>
+    error instanceof Refused && error.fault === "test-failed" && error.at === 0;
   await assert.rejects(board.edit(wrong, { once: true }), isRefused);
   await board.edit(push(2), { once: true });
   const own = { view: ["/cards"], once: "/counters", WebSocket: lossy([3]) };
@@ -92,7 +95,7 @@ test("a counter that somebody took away is followed by another one", async (t) =
   assert.deepEqual((await other.sync())[0][0].cards, [2]);
 });
 
-test("another run of the relay has another counter, and what was sent to the one before is `Unknown`", async (t) => {
+test("another run has another counter, and edits sent to the last one are `Unknown`", async (t) => {
   const relay = await restartable(t);
   const own = { view: ["/cards"], once: "/counters", begin: BEGUN, WebSocket: lossy([4]) };
   const [board] = await boardsOf(t, relay.url, own);
@@ -108,7 +111,10 @@ test("another run of the relay has another counter, and what was sent to the one
 
 test("without an object for the counter the error says what to do", async (t) => {
   const [board, other] = await boards(t, { view: ["/cards"], once: "/counters" }, ["/cards"]);
-  await assert.rejects(board.edit(push(1), { once: true }), /missing: `once` needs an object at "\/counters", as `begin` makes it/);
+  await assert.rejects(
+    board.edit(push(1), { once: true }),
+    /missing: `once` needs an object at "\/counters", as `begin` makes it/,
+  );
   await assert.rejects(other.edit(push(1), { once: true }), /TypeError: .*`once: "\/once"`/);
   await assert.rejects(board.edit(push(1), { once: true, base: 1 }), TypeError);
   await other.edit([{ op: "add", path: "/counters", value: {} }]);

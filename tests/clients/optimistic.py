@@ -15,7 +15,11 @@ from showing import ShowingInPython
 
 ROOM = "play"
 BEGUN = {"log": [], "n": 0, "lists": {"a": [1, 2, 3], "b": [], "c": [{"k": [0]}]}}
-WHOLE = [[""], ["/log", "/n", "/lists"], ["/n", {"size": "/log"}, "/lists", "/log", "/lists/a/0", {"size": "/lists/a"}]]
+WHOLE = [
+    [""],
+    ["/log", "/n", "/lists"],
+    ["/n", {"size": "/log"}, "/lists", "/log", "/lists/a/0", {"size": "/lists/a"}],
+]
 """Views that tell all of the document, so that a client knows what each of its edits leads to."""
 PARTS = [["/lists/a", "/log"], ["/lists/a/0", "/lists/b", {"size": "/log"}]]
 EDITS = 60
@@ -39,7 +43,9 @@ class Watcher:
             pass  # the relay ended, perhaps before the handshake did
 
     async def follow(self):
-        async with websockets.connect(f"ws://127.0.0.1:{self.relay.port}/rooms/{ROOM}", max_size=None) as link:
+        async with websockets.connect(
+            f"ws://127.0.0.1:{self.relay.port}/rooms/{ROOM}", max_size=None
+        ) as link:
             await link.send(json.dumps({"do": "watch", "id": 1, "view": [""]}))
             slots = None
             async for text in link:
@@ -62,7 +68,15 @@ class Play:
     def __init__(self, seed, program, node):
         self.chance, self.program, self.node = random.Random(seed), program, node
         self.numbers, self.run, self.watchers = itertools.count(), 0, {}
-        self.counts = {"edits": 0, "done": 0, "taken back": 0, "moments": 0, "with edits that wait": 0, "cuts": 0, "restarts": 0}
+        self.counts = {
+            "edits": 0,
+            "done": 0,
+            "taken back": 0,
+            "moments": 0,
+            "with edits that wait": 0,
+            "cuts": 0,
+            "restarts": 0,
+        }
 
     async def play(self):
         self.proxy = Proxy(late=lambda: self.chance.choice([0, 0.003, 0.02]))
@@ -70,7 +84,9 @@ class Play:
         await self.start()
         views = [*self.chance.sample(WHOLE, 2), self.chance.choice(PARTS)]
         self.players = [await InNode.begin(self.node, url, view) for view in views]
-        self.players += [ShowingInPython(url, self.chance.choice(kind)) for kind in (WHOLE, WHOLE, PARTS)]
+        self.players += [
+            ShowingInPython(url, self.chance.choice(kind)) for kind in (WHOLE, WHOLE, PARTS)
+        ]
         if go := os.environ.get("GO_PLAYER"):
             shown = [self.chance.choice(kind) for kind in (WHOLE, WHOLE, PARTS)]
             self.players += [await InGo.begin(go, url, view) for view in shown]
@@ -92,8 +108,16 @@ class Play:
 
     async def start(self):
         self.run += 1
-        self.relay = await Relay.begin(self.program, 1000 + self.run, self.chance.choice([1, 4, 64]), self.chance.choice([2, 32]))
-        begin = [{"op": "test", "path": "", "value": None}, {"op": "add", "path": "", "value": BEGUN}]
+        self.relay = await Relay.begin(
+            self.program,
+            1000 + self.run,
+            self.chance.choice([1, 4, 64]),
+            self.chance.choice([2, 32]),
+        )
+        begin = [
+            {"op": "test", "path": "", "value": None},
+            {"op": "add", "path": "", "value": BEGUN},
+        ]
         await self.relay.request(ROOM, {"do": "edit", "patch": begin}, "done")
         self.watchers[1000 + self.run] = Watcher(self.relay)
         self.proxy.port = self.relay.port
@@ -102,7 +126,9 @@ class Play:
         what = self.chance.random()
         if what < 0.08:
             self.counts["cuts"] += 1
-            self.proxy.cut(lambda: self.chance.random() < 0.5, near=lambda: self.chance.random() < 0.5)
+            self.proxy.cut(
+                lambda: self.chance.random() < 0.5, near=lambda: self.chance.random() < 0.5
+            )
         elif what < 0.11:
             self.counts["restarts"] += 1
             self.proxy.port = None
@@ -114,16 +140,21 @@ class Play:
 
     async def edit(self, player):
         tag = f"t{next(self.numbers)}"
-        patch = [self.operation() for _ in range(self.chance.randint(0, 2))] + [{"op": "add", "path": "/log/-", "value": tag}]
+        patch = [self.operation() for _ in range(self.chance.randint(0, 2))] + [
+            {"op": "add", "path": "/log/-", "value": tag}
+        ]
         answer = await player.ask(do="show", patch=patch, based=self.chance.random() < 0.2)
         self.counts["edits"] += 1
         self.counts["done" if "rev" in answer else "taken back"] += 1
 
     def operation(self):
         """One that is refused now and then."""
-        place = lambda ends: f"/lists/{self.chance.choice('abc')}/{self.chance.choice([*'0012', *ends])}"
+        pick = self.chance.choice
+        place = lambda ends: f"/lists/{pick('abc')}/{pick([*'0012', *ends])}"
         value = self.chance.choice([0, None, "ä~/", {"k": [1]}, [[]], {"a/b": {"m~n": 7}}])
-        op = self.chance.choice(["add", "add", "remove", "replace", "move", "move", "copy", "test", "raise"])
+        op = self.chance.choice(
+            ["add", "add", "remove", "replace", "move", "move", "copy", "test", "raise"]
+        )
         if op == "raise":
             return {"op": "replace", "path": "/n", "value": self.chance.randint(0, 9)}
         if op in ("move", "copy"):
@@ -142,7 +173,11 @@ class Play:
                 told = await player.ask(do="lines")
                 lines += told["lines"]
                 last = told["last"]
-                if last["state"] == "open" and last["pending"] == 0 and last["slots"] == last["confirmed"]:
+                if (
+                    last["state"] == "open"
+                    and last["pending"] == 0
+                    and last["slots"] == last["confirmed"]
+                ):
                     break
                 if time.monotonic() > until:
                     raise Wrong(f"still waits: {last}")
@@ -157,8 +192,15 @@ class Play:
         self.counts["moments"] += 1
         view = line["view"]
         if line["confirmed"] != shows(document, view):
-            raise Wrong(f"{kind} has {line['confirmed']} confirmed, and not {shows(document, view)} of revision {line['rev']}")
-        waiting = [edits[k]["patch"] for k in range(line["asked"]) if k not in line["back"] and self.waits(edits[k], line)]
+            raise Wrong(
+                f"{kind} has {line['confirmed']} confirmed, and not {shows(document, view)} of "
+                f"revision {line['rev']}"
+            )
+        waiting = [
+            edits[k]["patch"]
+            for k in range(line["asked"])
+            if k not in line["back"] and self.waits(edits[k], line)
+        ]
         if view not in WHOLE:
             return
         if line["pending"] != len(waiting):
@@ -166,7 +208,10 @@ class Play:
         self.counts["with edits that wait"] += len(waiting) > 0
         wanted = shows(laid_over(document, waiting), view)
         if line["slots"] != wanted:
-            raise Wrong(f"{kind} shows {line['slots']}, and not {wanted}, of {line['confirmed']} with {waiting}")
+            raise Wrong(
+                f"{kind} shows {line['slots']}, and not {wanted}, of {line['confirmed']} with "
+                f"{waiting}"
+            )
 
     def waits(self, edit, line):
         """Until the slots are of a revision that is not below that of its answer, or of a later
@@ -211,7 +256,8 @@ async def main(seeds=20, first=1):
             await player.play()
         except Wrong as wrong:
             sys.exit(f"seed {seed}, edits that show at once: {wrong}")
-        print(f"seed {seed}: " + ", ".join(f"{count} {word}" for word, count in player.counts.items()), flush=True)
+        counts = ", ".join(f"{count} {word}" for word, count in player.counts.items())
+        print(f"seed {seed}: {counts}", flush=True)
     print(f"{seeds} seeds of edits that show at once in {time.monotonic() - begun:.0f} seconds")
 
 

@@ -12,7 +12,9 @@ const MEMBERS = 18_000;
 
 /** A write to it throws. */
 function frozen(value) {
-  if (typeof value === "object" && value !== null) Object.values(Object.freeze(value)).forEach(frozen);
+  if (typeof value === "object" && value !== null) {
+    Object.values(Object.freeze(value)).forEach(frozen);
+  }
   return value;
 }
 
@@ -31,7 +33,10 @@ function orMisfit(make) {
  * does not fit.
  */
 function plainly(document, patch) {
-  const led = patch.reduce((text, operation) => text && orMisfit(() => applied(JSON.parse(text), [operation])), JSON.stringify(document));
+  const led = patch.reduce(
+    (text, operation) => text && orMisfit(() => applied(JSON.parse(text), [operation])),
+    JSON.stringify(document),
+  );
   return led && JSON.parse(led);
 }
 
@@ -42,13 +47,16 @@ test("a patch writes to nothing that was handed out, and to no part in two place
   const value = (deep) => {
     if (deep === 0 || chance(4) === 0) return one([0, "a", null]);
     const parts = Array.from({ length: 1 + chance(3) }, () => value(deep - 1));
-    const member = (part, k) => `"${one(["a", "b", "0", "__proto__"])}${k || ""}":${JSON.stringify(part)}`;
+    const member = (part, k) =>
+      `"${one(["a", "b", "0", "__proto__"])}${k || ""}":${JSON.stringify(part)}`;
     return chance(2) ? parts : JSON.parse(`{${parts.map(member)}}`);
   };
   // Mostly a path of the document, and at times one that goes on from it.
   const path = (part) => {
     const names = typeof part === "object" && part !== null ? Object.keys(part) : [];
-    if (names.length === 0 || chance(4) === 0) return chance(2) ? "" : `/${one(["a", "b1", "0", "-", "__proto__"])}`;
+    if (names.length === 0 || chance(4) === 0) {
+      return chance(2) ? "" : `/${one(["a", "b1", "0", "-", "__proto__"])}`;
+    }
     const name = one(names);
     return `/${name}${path(part[name])}`;
   };
@@ -60,7 +68,12 @@ test("a patch writes to nothing that was handed out, and to no part in two place
     let wanted = document;
     for (let more = 0; more < 6; more += 1) {
       const op = one(["add", "add", "remove", "replace", "move", "copy", "copy"]);
-      const operation = frozen({ op, path: path(wanted), from: path(wanted), value: chance(2) ? shared : value(1) });
+      const operation = frozen({
+        op,
+        path: path(wanted),
+        from: path(wanted),
+        value: chance(2) ? shared : value(1),
+      });
       const led = plainly(wanted, [operation]);
       if (led === undefined && chance(8) > 0) continue;
       patch.push(operation);
@@ -79,13 +92,29 @@ test("what takes a patch back keeps the values of before it", () => {
   const document = frozen({ list: [{ n: 1 }, { n: 2 }, { n: 3 }], map: { a: { n: 1 } } });
   const add = { op: "add", path: "/map/a/m", value: 0 };
   for (const patch of [
-    [{ op: "add", path: "/list/0/m", value: 0 }, { op: "remove", path: "/list/1" }, { op: "replace", path: "/list/0/n", value: 9 }],
-    [add, { op: "move", from: "/map/a", path: "/list/1" }, { op: "replace", path: "/list/1/n", value: 9 }],
-    [add, { op: "copy", from: "/map/a", path: "/map/b" }, { op: "replace", path: "/map/b/n", value: 9 }],
+    [
+      { op: "add", path: "/list/0/m", value: 0 },
+      { op: "remove", path: "/list/1" },
+      { op: "replace", path: "/list/0/n", value: 9 },
+    ],
+    [
+      add,
+      { op: "move", from: "/map/a", path: "/list/1" },
+      { op: "replace", path: "/list/1/n", value: 9 },
+    ],
+    [
+      add,
+      { op: "copy", from: "/map/a", path: "/map/b" },
+      { op: "replace", path: "/map/b/n", value: 9 },
+    ],
     [add, { op: "replace", path: "/map/a", value: {} }, { op: "add", path: "/map/a/k", value: 1 }],
   ]) {
     const back = inverse(knownBy([""], [[document]]), frozen(patch));
-    assert.deepEqual(applied(applied(document, patch), back.patch), document, JSON.stringify(back.patch));
+    assert.deepEqual(
+      applied(applied(document, patch), back.patch),
+      document,
+      JSON.stringify(back.patch),
+    );
   }
 });
 
@@ -113,7 +142,10 @@ test("64 operations on a large object take about as long as one", () => {
     for (const [op, make] of Object.entries(kinds)) {
       const patch = Array.from({ length: 64 }, (_, k) => make(k));
       const [one, all] = [fastest(() => act(patch.slice(0, 1))), fastest(() => act(patch))];
-      assert.ok(all < 20 * one, `${word}, ${op}: ${all.toFixed(1)} ms, and ${one.toFixed(1)} ms for one operation`);
+      assert.ok(
+        all < 20 * one,
+        `${word}, ${op}: ${all.toFixed(1)} ms, and ${one.toFixed(1)} ms for one operation`,
+      );
     }
   }
 });

@@ -13,7 +13,12 @@ import { begunRoom, scripted, until } from "./rooms.mjs";
 async function throttled(t, url, rate) {
   const sockets = new Set();
   // A loss of a connection whose handshake was done has no cause.
-  const proxy = { lost: 0, bytes: 0, url, told: (state, cause) => (proxy.lost += Number(state === "waiting" && cause === null)) };
+  const proxy = {
+    lost: 0,
+    bytes: 0,
+    url,
+    told: (state, cause) => (proxy.lost += Number(state === "waiting" && cause === null)),
+  };
   const server = createServer((near) => {
     const far = dial(new URL(url).port, "127.0.0.1");
     const end = () => [near, far].forEach((socket) => socket.destroy());
@@ -57,7 +62,12 @@ function losses(t, options, count) {
 }
 
 function about(seen, wanted) {
-  seen.forEach((took, k) => assert.ok(took > wanted[k] * 0.9 && took < wanted[k] * 1.5 + 400, `${seen} ms, and not about ${wanted}`));
+  seen.forEach((took, k) =>
+    assert.ok(
+      took > wanted[k] * 0.9 && took < wanted[k] * 1.5 + 400,
+      `${seen} ms, and not about ${wanted}`,
+    ),
+  );
 }
 
 test("patience counts from the oldest request without an answer", async (t) => {
@@ -79,7 +89,13 @@ test("a snapshot that takes longer than quiet and patience arrives", async (t) =
   const text = "x".repeat(100_000);
   const proxy = await throttled(t, await begunRoom({ text, n: 0 }), 660_000);
   const view = [...Array(10).fill("/text"), "/n"]; // 1 MB, which take 1.5 s, where patience has 6 s
-  const board = connect(proxy.url, { view, quiet: 100, patience: 1000, firstWait: 10, onState: proxy.told });
+  const board = connect(proxy.url, {
+    view,
+    quiet: 100,
+    patience: 1000,
+    firstWait: 10,
+    onState: proxy.told,
+  });
   t.after(() => board.close());
   // An edit meanwhile is answered behind it.
   await until(() => proxy.bytes > 100_000);
@@ -93,20 +109,29 @@ test("a snapshot that takes longer than quiet and patience arrives", async (t) =
 test("and so does one that takes many times longer", async (t) => {
   const text = "x".repeat(100_000);
   const proxy = await throttled(t, await begunRoom({ text }), 330_000);
-  const view = Array(10).fill("/text"); // 1 MB, which take 3 s, where patience has 2.4 s, and then 4.8
-  const board = connect(proxy.url, { view, quiet: 100, patience: 400, firstWait: 10, onState: proxy.told });
+  // 1 MB, which take 3 s, where patience has 2.4 s, and then 4.8
+  const view = Array(10).fill("/text");
+  const board = connect(proxy.url, {
+    view,
+    quiet: 100,
+    patience: 400,
+    firstWait: 10,
+    onState: proxy.told,
+  });
   t.after(() => board.close());
   await board.ready;
   assert.equal(proxy.lost, 1);
 });
 
-test("a snapshot that never comes is given up, later each time, and no request is sent meanwhile", async (t) => {
+test("a snapshot that never comes is given up, later each time; no request then", async (t) => {
   const said = [];
   const sockets = scripted((request, tell) => {
     said.push(request.do);
     if (request.do === "watch") tell({ kind: "watching", id: request.id });
   });
-  about(await losses(t, { WebSocket: sockets, quiet: 10, patience: 10 }, 5), [60, 120, 240, 480, 480]);
+  about(await losses(t, { WebSocket: sockets, quiet: 10, patience: 10 }, 5), [
+    60, 120, 240, 480, 480,
+  ]);
   assert.deepEqual(said, Array(5).fill("watch"));
 });
 
@@ -124,7 +149,9 @@ test("once slots came the first patience is back", async (t) => {
   };
   // From the third connection on slots come, and then nothing: after `quiet` a request asks for an
   // answer, for as long as patience has.
-  about(await losses(t, { WebSocket: sockets, quiet: 30, patience: 100 }, 5), [600, 1200, 130, 130, 130]);
+  about(await losses(t, { WebSocket: sockets, quiet: 30, patience: 100 }, 5), [
+    600, 1200, 130, 130, 130,
+  ]);
 });
 
 test("where nobody answers a handshake, patience stays what it is", async (t) => {

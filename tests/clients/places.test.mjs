@@ -6,14 +6,29 @@ import { runInNewContext } from "node:vm";
 import { Refused, connect, room } from "../../clients/javascript/relay.mjs";
 import { begunRoom, boardsOf, newRoom, pause, until } from "./rooms.mjs";
 
-const PLAN = { cards: ["milk", "bread"], people: { ann: { age: 3 } }, "a/b": { "m~n": 1 }, none: null };
+const PLAN = {
+  cards: ["milk", "bread"],
+  people: { ann: { age: 3 } },
+  "a/b": { "m~n": 1 },
+  none: null,
+};
 
 test("a part of a slot is read and set, and what is there is replaced", async (t) => {
-  const [board, other] = await boardsOf(t, await begunRoom(PLAN), ["/cards", "/people", "/a~1b"], [""]);
-  const [first, age, escaped] = ["/cards/0", "/people/ann/age", "/a~1b/m~0n"].map((pointer) => board.at(pointer));
+  const [board, other] = await boardsOf(
+    t,
+    await begunRoom(PLAN),
+    ["/cards", "/people", "/a~1b"],
+    [""],
+  );
+  const [first, age, escaped] = ["/cards/0", "/people/ann/age", "/a~1b/m~0n"].map((pointer) =>
+    board.at(pointer),
+  );
   assert.deepEqual([first.value, age.value, escaped.value], ["milk", 3, 1]);
   const done = first.set("eggs");
-  assert.deepEqual([first.value, first.confirmed, board.at("/cards").value], ["eggs", "milk", ["eggs", "bread"]]);
+  assert.deepEqual(
+    [first.value, first.confirmed, board.at("/cards").value],
+    ["eggs", "milk", ["eggs", "bread"]],
+  );
   await done;
   await age.set(null);
   await escaped.set(2);
@@ -23,22 +38,37 @@ test("a part of a slot is read and set, and what is there is replaced", async (t
   await board.at("/cards/-").set("tea");
   await until(() => other.rev === board.rev && board.pending === 0);
   const people = { ann: { age: null }, bob: { age: 4 } };
-  assert.deepEqual(other.slots, [[{ cards: ["eggs", "bread", "tea"], people, "a/b": { "m~n": 2 }, none: null }]]);
+  assert.deepEqual(other.slots, [
+    [{ cards: ["eggs", "bread", "tea"], people, "a/b": { "m~n": 2 }, none: null }],
+  ]);
   assert.deepEqual(board.confirmed, board.slots);
 });
 
 test("a pointer that no slot shows is neither read nor written", async (t) => {
-  const [board] = await boardsOf(t, await begunRoom(PLAN), ["/cards/0", { size: "/people" }, "/none"]);
-  const apart = { message: '"/cards" is not in the view ["/cards/0",{"size":"/people"},"/none"]', name: "RangeError" };
+  const [board] = await boardsOf(t, await begunRoom(PLAN), [
+    "/cards/0",
+    { size: "/people" },
+    "/none",
+  ]);
+  const apart = {
+    message: '"/cards" is not in the view ["/cards/0",{"size":"/people"},"/none"]',
+    name: "RangeError",
+  };
   assert.throws(() => board.at("/cards").value, apart);
   assert.throws(() => board.at("/cards").confirmed, apart);
   assert.throws(() => board.at("/cards").set([]), apart);
   await assert.rejects(board.at("/cards").update(() => []), apart);
   assert.throws(() => board.at("/people").value, RangeError);
   assert.throws(() => board.at("cards"), RangeError);
-  assert.deepEqual([board.at({ size: "/people" }).value, board.at({ size: "/cards" }).value], [1, undefined]);
+  assert.deepEqual(
+    [board.at({ size: "/people" }).value, board.at({ size: "/cards" }).value],
+    [1, undefined],
+  );
   // Nothing stands in what is no container.
-  assert.deepEqual([board.at("/none").value, board.at("/none/a").value, board.at("/cards/0/length").value], [null, undefined, undefined]);
+  assert.deepEqual(
+    [board.at("/none").value, board.at("/none/a").value, board.at("/cards/0/length").value],
+    [null, undefined, undefined],
+  );
   assert.equal(board.rev, 1);
 });
 
@@ -77,8 +107,16 @@ test("a listener of a part is told each other value of it", async (t) => {
 });
 
 test("a part is counted by many without a loss", async (t) => {
-  const all = await boardsOf(t, await begunRoom({ counts: { a: 0 } }), ["/counts"], [""], ["/counts/a"]);
-  await Promise.all(all.flatMap((board) => [1, 2, 3].map(() => board.at("/counts/a").update((n) => n + 1))));
+  const all = await boardsOf(
+    t,
+    await begunRoom({ counts: { a: 0 } }),
+    ["/counts"],
+    [""],
+    ["/counts/a"],
+  );
+  await Promise.all(
+    all.flatMap((board) => [1, 2, 3].map(() => board.at("/counts/a").update((n) => n + 1))),
+  );
   await until(() => all.every((board) => board.at("/counts/a").value === 9));
 });
 

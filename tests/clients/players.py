@@ -12,7 +12,9 @@ class InPython:
     def __init__(self, url, view):
         self.handed = []  # slots that were handed out, and what they were then
         waits = {"first_wait": 0.01, "longest_wait": 0.1, "on_state": lambda state, cause: None}
-        self.board = relay_client.connect(url, view=view, on_change=self.keep, once="/once", **waits)
+        self.board = relay_client.connect(
+            url, view=view, on_change=self.keep, once="/once", **waits
+        )
         self.counter = relay_client.connect(url, view=["/count"], **waits)
         self.changer = relay_client.connect(url, view=["/changed", "/log"], **waits)
 
@@ -64,7 +66,13 @@ class InPython:
     async def look(self):
         board = self.board
         spoiled = any(json.dumps(slots) != text for slots, text in self.handed)
-        return {"view": board.view, "slots": board.slots, "rev": board.rev, "state": board.state, "spoiled": spoiled}
+        return {
+            "view": board.view,
+            "slots": board.slots,
+            "rev": board.rev,
+            "state": board.state,
+            "spoiled": spoiled,
+        }
 
     async def leave(self):
         await self.board.close()
@@ -96,7 +104,9 @@ class InProcess(InJavaScript):
     async def begin(cls, program, url, view):
         player = cls()
         words, pipe = [*program, url, json.dumps(view)], asyncio.subprocess.PIPE
-        player.process = await asyncio.create_subprocess_exec(*words, stdin=pipe, stdout=pipe, limit=2**24)
+        player.process = await asyncio.create_subprocess_exec(
+            *words, stdin=pipe, stdout=pipe, limit=2**24
+        )
         player.ids, player.asked = itertools.count(1), {}
         player.reading = asyncio.ensure_future(player.read())
         return player
@@ -150,7 +160,9 @@ class InBrowser(InJavaScript):
         player = cls()
         player.page = await Page.open(browser, f"file://{ROOT}/tests/clients/player.html")
         await player.page.until("document.readyState === 'complete' && 'play' in globalThis", True)
-        await player.page.evaluate(f"globalThis.player = play(relay, {json.dumps(url)}, {json.dumps(view)}), true")
+        await player.page.evaluate(
+            f"globalThis.player = play(relay, {json.dumps(url)}, {json.dumps(view)}), true"
+        )
         return player
 
     async def ask(self, **words):

@@ -4,7 +4,17 @@ import assert from "node:assert/strict";
 import { spawn } from "node:child_process";
 import { test } from "node:test";
 import { connect, presence } from "../../clients/javascript/relay.mjs";
-import { WithoutWills, begunRoom, boards, boardsOf, cuttable, newRoom, pause, restartable, until } from "./rooms.mjs";
+import {
+  WithoutWills,
+  begunRoom,
+  boards,
+  boardsOf,
+  cuttable,
+  newRoom,
+  pause,
+  restartable,
+  until,
+} from "./rooms.mjs";
 
 const names = (here) => Object.values(here.people).map(({ name }) => name).sort().join();
 
@@ -16,7 +26,12 @@ test("who is here, and who is not any more", async (t) => {
       super.send(text);
     }
   };
-  const [ann, bob] = await boardsOf(t, await begunRoom({ here: {} }), { view: ["/here"], WebSocket: counting }, ["/here"]);
+  const [ann, bob] = await boardsOf(
+    t,
+    await begunRoom({ here: {} }),
+    { view: ["/here"], WebSocket: counting },
+    ["/here"],
+  );
   const first = presence(ann, "/here", { name: "Ann" }, { every: 20 });
   const second = presence(bob, "/here", { name: "Bob" });
   await Promise.all([first.ready, second.ready]);
@@ -34,11 +49,14 @@ test("who is here, and who is not any more", async (t) => {
   await assert.rejects(first.set({ name: "Ann" }), { name: "Closed" });
 });
 
-test("a connection that is lost takes its entry away, and the next one writes it again", async (t) => {
+test("a lost connection takes its entry away, and the next one writes it again", async (t) => {
   const sockets = cuttable();
   const views = [{ view: ["/here"], WebSocket: sockets }, ["/here"]];
   const [ann, bob] = await boardsOf(t, await begunRoom({ here: {} }), ...views);
-  const [first, second] = [presence(ann, "/here", { name: "Ann" }), presence(bob, "/here", { name: "Bob" })];
+  const [first, second] = [
+    presence(ann, "/here", { name: "Ann" }),
+    presence(bob, "/here", { name: "Bob" }),
+  ];
   await Promise.all([first.ready, second.ready]);
   await until(() => names(second) === "Ann,Bob");
   const { session } = second.people[first.id];
@@ -58,7 +76,12 @@ test("the will of an earlier session leaves the entry of a later one", async (t)
       super.send(text);
     }
   };
-  const [ann, bob] = await boardsOf(t, await begunRoom({ here: {} }), { view: ["/here"], WebSocket: silent }, ["/here"]);
+  const [ann, bob] = await boardsOf(
+    t,
+    await begunRoom({ here: {} }),
+    { view: ["/here"], WebSocket: silent },
+    ["/here"],
+  );
   const here = presence(ann, "/here", { name: "Ann" });
   await here.ready;
   await bob.edit([{ op: "replace", path: `/here/${here.id}/session`, value: "another" }]);
@@ -68,7 +91,9 @@ test("the will of an earlier session leaves the entry of a later one", async (t)
 
 test("two windows with one id are here until both have left", async (t) => {
   const [ann, bob, other] = await boards(t, ["/here"], ["/here"], ["/here"]);
-  const [first, second] = [ann, bob].map((board) => presence(board, "/here", { name: "Ann" }, { id: "ann" }));
+  const [first, second] = [ann, bob].map((board) =>
+    presence(board, "/here", { name: "Ann" }, { id: "ann" }),
+  );
   await Promise.all([first.ready, second.ready]);
   await second.set({ name: "Anne" });
   bob.close();
@@ -86,10 +111,15 @@ test("an entry of an earlier run, as a keeper puts it back, is taken away", asyn
 
 test("what several parts of a page leave is done together", async (t) => {
   const [ann, other] = await boards(t, ["/here", "/there"], [""]);
-  const [one, two] = [presence(ann, "/here", { name: "Ann" }), presence(ann, "/there", { name: "Ann" })];
+  const [one, two] = [
+    presence(ann, "/here", { name: "Ann" }),
+    presence(ann, "/there", { name: "Ann" }),
+  ];
   await ann.will([{ op: "add", path: "/title", value: "left" }]);
   await Promise.all([one.ready, two.ready]);
-  await assert.rejects(ann.will([{ op: "add", path: "", value: "x".repeat(70_000) }]), { fault: "too-heavy" });
+  await assert.rejects(ann.will([{ op: "add", path: "", value: "x".repeat(70_000) }]), {
+    fault: "too-heavy",
+  });
   await two.leave();
   ann.close();
   await until(() => other.at("/title").value === "left");
@@ -125,13 +155,18 @@ test("who is here, told to a relay that knows no wills", async (t) => {
 });
 
 for (const begin of [undefined, { here: {} }, { cards: [] }]) {
-  test(`it comes back after a restart, with ${JSON.stringify(begin) ?? "nothing"} to begin with`, async (t) => {
+  const beginning = JSON.stringify(begin) ?? "nothing";
+  test(`it comes back after a restart, with ${beginning} to begin with`, async (t) => {
     const relay = await restartable(t);
     const options = { view: ["/here"], begin };
     const [ann, bob, other] = await boardsOf(t, relay.url, options, options, [""]);
-    const start = () => begin === undefined && other.edit([{ op: "add", path: "", value: { cards: [] } }]);
+    const start = () =>
+      begin === undefined && other.edit([{ op: "add", path: "", value: { cards: [] } }]);
     await start();
-    const [first, second] = [presence(ann, "/here", { name: "Ann" }), presence(bob, "/here", { name: "Bob" })];
+    const [first, second] = [
+      presence(ann, "/here", { name: "Ann" }),
+      presence(bob, "/here", { name: "Bob" }),
+    ];
     await until(() => names(first) === "Ann,Bob" && names(second) === "Ann,Bob");
     await relay.stop();
     await until(() => [ann, bob, other].every(({ state }) => state === "waiting"));
@@ -160,7 +195,7 @@ test("in a room that has not begun it waits for the document", async (t) => {
   await until(() => names(here) === "Ann");
 });
 
-test("in a document that is full it waits for another one, and asks for nothing meanwhile", async (t) => {
+test("in a full document it waits for another one, and asks for nothing meanwhile", async (t) => {
   let sent = 0;
   const counting = class extends WebSocket {
     send(text) {
@@ -190,7 +225,13 @@ test("what is no object is replaced, and what is no entry is left out", async (t
     const shown = presence(ann, "/here", { name: "Ann" });
     await shown.ready;
     await until(() => names(shown) === "Ann");
-    await other.edit(["x", "y", "z"].map((id, k) => ({ op: "add", path: `/here/${id}`, value: [null, 7, [1]][k] })));
+    await other.edit(
+      ["x", "y", "z"].map((id, k) => ({
+        op: "add",
+        path: `/here/${id}`,
+        value: [null, 7, [1]][k],
+      })),
+    );
     await until(() => Object.keys(ann.slots[0][0]).length === 4);
     assert.deepEqual([Object.keys(shown.people), shown.people], [[shown.id], shown.people]);
     assert.equal(shown.people, shown.people);
@@ -204,7 +245,7 @@ test("what is no object is replaced, and what is no entry is left out", async (t
   }
 });
 
-test("without wills an entry lives 150 seconds, so that one renewal in a minute keeps it", async (t) => {
+test("without wills an entry lives 150 seconds, so one renewal in a minute keeps it", async (t) => {
   const old = { view: ["/here"], WebSocket: WithoutWills };
   const [ann, other] = await boardsOf(t, await begunRoom({ here: {} }), old, ["/here"]);
   t.mock.timers.enable({ apis: ["setInterval", "Date"] });
@@ -230,7 +271,12 @@ test("without wills an entry lives 150 seconds, so that one renewal in a minute 
 test("the application is not told of what presence is refused", async (t) => {
   const relay = await restartable(t);
   const taken = [];
-  const [ann, other] = await boardsOf(t, relay.url, { view: ["/here"], onTakenBack: (told) => taken.push(told) }, [""]);
+  const [ann, other] = await boardsOf(
+    t,
+    relay.url,
+    { view: ["/here"], onTakenBack: (told) => taken.push(told) },
+    [""],
+  );
   await other.edit([{ op: "add", path: "", value: { here: {} } }]);
   const here = presence(ann, "/here", { name: "Ann" }, { every: 5 });
   await here.ready;
@@ -249,17 +295,27 @@ test("nothing that the client does by itself ends the process", async (t) => {
   const relay = await restartable(t);
   const script = `
     import { connect, presence } from "./clients/javascript/relay.mjs";
-    const kept = JSON.stringify([{ patch: [{ op: "remove", path: "/nothing" }], epoch: null }, { patch: [], base: 7, epoch: 3 }]);
+    const kept = JSON.stringify([
+      { patch: [{ op: "remove", path: "/nothing" }], epoch: null },
+      { patch: [], base: 7, epoch: 3 },
+    ]);
     const storage = { getItem: () => kept, setItem() {}, removeItem() {} };
     const states = [];
     const onState = (state) => console.log(state);
-    const board = connect("${relay.url}", { view: ["/here"], begin: { here: 5 }, storage, firstWait: 10, onState });
+    const options = { view: ["/here"], begin: { here: 5 }, storage, firstWait: 10, onState };
+    const board = connect("${relay.url}", options);
     const here = presence(board, "/here", { name: "Ann" }, { every: 5 });
     const elsewhere = presence(board, "/elsewhere", { name: "Ann" }, { every: 5 });
     setInterval(() => { here.set({ name: "Ann" }); elsewhere.set({ name: "Ann" }); }, 7);
     process.stdin.on("data", () => board.close()).on("end", () => process.exit(0));
   `;
-  const words = [...process.execArgv.filter((word) => word.includes("websocket")), "--no-warnings", "--input-type=module", "-e", script];
+  const words = [
+    ...process.execArgv.filter((word) => word.includes("websocket")),
+    "--no-warnings",
+    "--input-type=module",
+    "-e",
+    script,
+  ];
   const child = spawn(process.execPath, words, { stdio: ["pipe", "pipe", "inherit"] });
   t.after(() => child.kill());
   let told = "";

@@ -7,7 +7,9 @@ from relay_client.transport import websocket
 
 class ShowingInPython:
     def __init__(self, url, view):
-        self.lines = []  # how the slots were over time, which edits had been asked for, and which of those had been taken back
+        # How the slots were over time, which edits had been asked for, and which of those had been
+        # taken back.
+        self.lines = []
         self.asked, self.run = [], None
         waits = {"first_wait": 0.01, "longest_wait": 0.1, "on_state": lambda state, cause: None}
         told = {"on_change": lambda change: self.line(), "on_taken_back": self.taken_back}
@@ -20,12 +22,20 @@ class ShowingInPython:
 
     def line(self):
         board, back = self.board, [k for k, edit in enumerate(self.asked) if edit["back"]]
-        shown = {"view": board.view, "slots": board.slots, "confirmed": board.confirmed, "rev": board.rev, "epoch": board.epoch}
+        shown = {
+            "view": board.view,
+            "slots": board.slots,
+            "confirmed": board.confirmed,
+            "rev": board.rev,
+            "epoch": board.epoch,
+        }
         # A copy: no later change writes to slots.
-        self.lines.append(json.loads(json.dumps({**shown, "pending": board.pending, "asked": len(self.asked), "back": back})))
+        counts = {"pending": board.pending, "asked": len(self.asked), "back": back}
+        self.lines.append(json.loads(json.dumps({**shown, **counts})))
 
     def taken_back(self, patch, cause):
-        [k] = [k for k, edit in enumerate(self.asked) if edit["patch"][-1]["value"] == patch[-1]["value"]]
+        tag = patch[-1]["value"]
+        [k] = [k for k, edit in enumerate(self.asked) if edit["patch"][-1]["value"] == tag]
         self.asked[k]["back"] = True
         if self.lines:
             self.lines[-1]["back"].append(k)  # the last line was written without it
@@ -38,7 +48,9 @@ class ShowingInPython:
         edit = {"patch": patch, "back": False, "done": None}
         self.asked.append(edit)
         try:
-            answer = self.board.edit(patch, optimistic=True, **({"base": self.board.rev} if based else {}))
+            answer = self.board.edit(
+                patch, optimistic=True, **({"base": self.board.rev} if based else {})
+            )
             edit["done"] = await answer
         except (relay_client.Refused, relay_client.Unknown) as error:
             return {"fails": type(error).__name__}
@@ -48,7 +60,12 @@ class ShowingInPython:
     async def told(self):
         lines, self.lines = self.lines, []
         board = self.board
-        last = {"slots": board.slots, "confirmed": board.confirmed, "pending": board.pending, "state": board.state}
+        last = {
+            "slots": board.slots,
+            "confirmed": board.confirmed,
+            "pending": board.pending,
+            "state": board.state,
+        }
         return {"lines": lines, "edits": self.asked, "last": last}
 
     async def leave(self):

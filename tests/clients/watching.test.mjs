@@ -1,7 +1,13 @@
 // Boards that only watch, and rooms that are ended (RELAY names the program).
 import assert from "node:assert/strict";
 import { test } from "node:test";
-import { HandshakeFailed, Refused, connect, presence, room } from "../../clients/javascript/relay.mjs";
+import {
+  HandshakeFailed,
+  Refused,
+  connect,
+  presence,
+  room,
+} from "../../clients/javascript/relay.mjs";
 import { begunRoom, boardsOf, cuttable, newRoom, scripted, until } from "./rooms.mjs";
 
 const VIEW = ["/cards", "/title", "/count"];
@@ -25,7 +31,12 @@ test("each edit of who only watches fails at once, and nothing is shown or sent"
   const url = await begunRoom();
   const told = [];
   const options = { view: VIEW, readOnly: true, onChange: (change) => told.push(change) };
-  const [board, other] = await boardsOf(t, url, { ...options, onTakenBack: (back) => told.push(back) }, VIEW);
+  const [board, other] = await boardsOf(
+    t,
+    url,
+    { ...options, onTakenBack: (back) => told.push(back) },
+    VIEW,
+  );
   const before = told.length;
   const place = board.at("/cards");
   const edits = [
@@ -94,7 +105,10 @@ test("parts of a page that only watch share a connection", async (t) => {
 test("who only watches sees who is here, and is not here", async (t) => {
   const url = await begunRoom({ here: {} });
   const [board, other] = await boardsOf(t, url, { view: ["/here"], readOnly: true }, ["/here"]);
-  const [mine, others] = [presence(board, "/here", { name: "Ann" }), presence(other, "/here", { name: "Bob" })];
+  const [mine, others] = [
+    presence(board, "/here", { name: "Ann" }),
+    presence(other, "/here", { name: "Bob" }),
+  ];
   await assert.rejects(mine.ready, isReadOnly);
   await others.ready;
   await until(() => Object.values(mine.people).map(({ name }) => name).join() === "Bob");

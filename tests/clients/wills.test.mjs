@@ -22,7 +22,12 @@ test("a will is done when the board is closed, and a withdrawn one is not", asyn
 
 test("each connection leaves it again, before the edits that waited", async (t) => {
   const sockets = cuttable();
-  const [board, other] = await boardsOf(t, await begunRoom(), { view: ["/cards"], WebSocket: sockets }, ["/cards"]);
+  const [board, other] = await boardsOf(
+    t,
+    await begunRoom(),
+    { view: ["/cards"], WebSocket: sockets },
+    ["/cards"],
+  );
   await board.will(push("left"));
   for (let lost = 1; lost < 4; lost += 1) {
     sockets.cut(true);
@@ -38,7 +43,12 @@ test("each connection leaves it again, before the edits that waited", async (t) 
 
 test("a will that was asked for while there is no connection waits for one", async (t) => {
   const sockets = cuttable();
-  const [board, other] = await boardsOf(t, await begunRoom(), { view: ["/count"], WebSocket: sockets }, ["/count"]);
+  const [board, other] = await boardsOf(
+    t,
+    await begunRoom(),
+    { view: ["/count"], WebSocket: sockets },
+    ["/count"],
+  );
   sockets.cut(true);
   await until(() => board.state === "waiting");
   const left = board.will(count(5));

@@ -66,7 +66,7 @@ test("`set` makes the parents of a place, once for all who do", async (t) => {
   await assert.rejects(all[2].at("/n/x/y").set(1, { parents: true }), Refused);
 });
 
-test("an edit that is stale when it is sent again is `Unknown`, with the room's revision", async (t) => {
+test("an edit that is stale when sent again is `Unknown`, with the room's revision", async (t) => {
   const sent = [];
   const sockets = class extends scripted(({ id, ...request }, tell) => {
     sent.push(request);
@@ -122,7 +122,10 @@ test("without a WebSocket, and without a relay, an error says what to do", async
   const own = globalThis.WebSocket;
   globalThis.WebSocket = undefined;
   t.after(() => (globalThis.WebSocket = own));
-  assert.throws(() => connect(newRoom(), { view: [] }), /TypeError: .*Node 22.*--experimental-websocket.*package `ws`/);
+  assert.throws(
+    () => connect(newRoom(), { view: [] }),
+    /TypeError: .*Node 22.*--experimental-websocket.*package `ws`/,
+  );
   globalThis.WebSocket = own;
   const { warn } = console;
   t.after(() => (console.warn = warn));

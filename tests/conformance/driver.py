@@ -22,10 +22,13 @@ class Failed(Exception):
 class Driver:
     def __init__(self, command):
         pipe = subprocess.PIPE
-        self.process = subprocess.Popen(command, stdin=pipe, stdout=pipe, text=True, encoding="utf-8")
+        self.process = subprocess.Popen(
+            command, stdin=pipe, stdout=pipe, text=True, encoding="utf-8"
+        )
         self.lines = queue.Queue()
         self.traits = []  # what the driver says of the client
-        self.heard, self.held = None, None  # the relay's last text, and what was held when the client was looked at last
+        # The relay's last text, and what was held when the client was looked at last.
+        self.heard, self.held = None, None
         threading.Thread(target=self._read, daemon=True).start()
 
     def begin(self, view, **more):
@@ -116,5 +119,7 @@ class Driver:
 
 def short(value):
     """A value's text, cut where a line would be too long to read."""
-    told = value if isinstance(value, str) else json.dumps(value, ensure_ascii=False, sort_keys=True)
+    told = (
+        value if isinstance(value, str) else json.dumps(value, ensure_ascii=False, sort_keys=True)
+    )
     return told if len(told) < SHORT else f"{told[:SHORT]}.."

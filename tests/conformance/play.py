@@ -53,7 +53,9 @@ class Play:
             raise Failed(f"it resumes, and holds nothing that it could go on from: {request}")
         for member in ("view", "rev", "epoch"):
             if request[member] != held[member]:
-                raise Failed(f"it resumes with the {member} {request[member]}, and its slots are of {held}")
+                raise Failed(
+                    f"it resumes with the {member} {request[member]}, and its slots are of {held}"
+                )
 
     def asked(self, *words):
         """The relay reads: requests of these kinds came, in this order."""

@@ -57,7 +57,13 @@ class Relay:
             raise Failed(f"a request whose id is no count: {short(text)}")
         if len(self.replies) >= ON_THE_WAY:
             raise Failed(f"a request while {ON_THE_WAY} are without a reply: {short(text)}")
-        answers = {"edit": self._edit, "watch": self._watch, "resume": self._resume, "unwatch": self._unwatch, "will": self._will}
+        answers = {
+            "edit": self._edit,
+            "watch": self._watch,
+            "resume": self._resume,
+            "unwatch": self._unwatch,
+            "will": self._will,
+        }
         answers.get(request.get("do"), self._nothing)(number, request)
         return request
 
@@ -155,7 +161,8 @@ def is_count(value):
 
 def faulty(view):
     pointers = [shown if isinstance(shown, str) else shown["size"] for shown in view]
-    return next((place for place, pointer in enumerate(pointers) if pointer and not pointer.startswith("/")), None)
+    wrong = (pointer and not pointer.startswith("/") for pointer in pointers)
+    return next((place for place, is_wrong in enumerate(wrong) if is_wrong), None)
 
 
 def shows(document, view):
@@ -165,7 +172,8 @@ def shows(document, view):
 
 def slot(document, shown):
     missing = object()
-    found = jsonpatch.JsonPointer(shown if isinstance(shown, str) else shown["size"]).resolve(document, missing)
+    pointer = shown if isinstance(shown, str) else shown["size"]
+    found = jsonpatch.JsonPointer(pointer).resolve(document, missing)
     if isinstance(shown, str):
         return [] if found is missing else [found]
     return [len(found)] if isinstance(found, (list, dict)) else []
@@ -190,19 +198,32 @@ def within(before, after, path):
     if text(before) == text(after):
         return []
     if isinstance(before, dict) and isinstance(after, dict):
-        gone = [{"op": "remove", "path": path + token(name)} for name in before if name not in after]
-        come = [{"op": "add", "path": path + token(name), "value": after[name]} for name in after if name not in before]
-        return gone + sum([within(before[name], after[name], path + token(name)) for name in before if name in after], come)
+        patch = [removed(path + token(name)) for name in before if name not in after]
+        patch += [added(path + token(name), after[name]) for name in after if name not in before]
+        for name in before:
+            if name in after:
+                patch += within(before[name], after[name], path + token(name))
+        return patch
     if isinstance(before, list) and isinstance(after, list):
-        start = next((place for place, (one, other) in enumerate(zip(before, after)) if text(one) != text(other)), None)
-        start = min(len(before), len(after)) if start is None else start
+        pairs = list(enumerate(zip(before, after)))
         if len(before) == len(after):
-            return sum([within(one, other, f"{path}/{place}") for place, (one, other) in enumerate(zip(before, after))], [])
+            return sum([within(*pair, f"{path}/{place}") for place, pair in pairs], [])
         # From the first element that is another one on: those that were there go, and those that
         # are there come.
-        gone = [{"op": "remove", "path": f"{path}/{start}"} for _ in before[start:]]
-        return gone + [{"op": "add", "path": f"{path}/{start + place}", "value": value} for place, value in enumerate(after[start:])]
+        others = (place for place, (one, other) in pairs if text(one) != text(other))
+        start = next(others, len(pairs))
+        patch = [removed(f"{path}/{start}") for _ in before[start:]]
+        places = enumerate(after[start:], start)
+        return patch + [added(f"{path}/{place}", value) for place, value in places]
     return replaced(path, after)
+
+
+def removed(path):
+    return {"op": "remove", "path": path}
+
+
+def added(path, value):
+    return {"op": "add", "path": path, "value": value}
 
 
 def replaced(path, value):

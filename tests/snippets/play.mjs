@@ -16,10 +16,14 @@ const [folder, ...documents] = process.argv.slice(2);
 const needs = createRequire(join(folder, "package.json"));
 // The same module as the snippets import, so that what a board fails with is an instance of their
 // classes.
-const { connect } = await import(pathToFileURL(join(folder, "node_modules/@bolsteregret/relay/src/relay.mjs")));
-const relay = spawn(process.env.RELAY, ["serve", "--port", "0", "--epoch", "1000"], { stdio: ["ignore", "pipe", "ignore"] });
+const client = join(folder, "node_modules/@bolsteregret/relay/src/relay.mjs");
+const { connect } = await import(pathToFileURL(client));
+const relay = spawn(process.env.RELAY, ["serve", "--port", "0", "--epoch", "1000"], {
+  stdio: ["ignore", "pipe", "ignore"],
+});
 process.on("exit", () => relay.kill());
-const { value: listening } = await createInterface({ input: relay.stdout })[Symbol.asyncIterator]().next();
+const lines = createInterface({ input: relay.stdout });
+const { value: listening } = await lines[Symbol.asyncIterator]().next();
 const port = listening.split(" ")[1];
 
 /** What tests/types/given.d.ts declares. */
@@ -30,7 +34,9 @@ async function given(number) {
   await board.edit([{ op: "add", path: "", value: BEGUN }], { undo: false });
   await board.ready;
   while (board.rev !== 1) await new Promise((resolve) => setTimeout(resolve, 5));
-  Object.assign(globalThis, { url, board, show: (...things) => shown.push(things.map((thing) => (typeof thing === "string" ? thing : JSON.stringify(thing))).join(" ")) });
+  const text = (thing) => (typeof thing === "string" ? thing : JSON.stringify(thing));
+  const show = (...things) => shown.push(things.map(text).join(" "));
+  Object.assign(globalThis, { url, board, show });
   return shown;
 }
 
@@ -39,9 +45,15 @@ function asModule(kind, body) {
   const text = body.replaceAll("ws://127.0.0.1:8080/", `ws://127.0.0.1:${port}/`);
   if (kind === "mjs") return text;
   const { transpileModule, ScriptTarget, ModuleKind, JsxEmit } = needs("typescript");
-  const compilerOptions = { target: ScriptTarget.ES2022, module: ModuleKind.ES2022, jsx: JsxEmit.React };
+  const compilerOptions = {
+    target: ScriptTarget.ES2022,
+    module: ModuleKind.ES2022,
+    jsx: JsxEmit.React,
+  };
   const { outputText } = transpileModule(text, { compilerOptions });
-  return kind === "mts" ? outputText : `import React from "react";\n${outputText}\nexport { ${COMPONENT.exec(body)[1]} as component };`;
+  if (kind === "mts") return outputText;
+  const component = COMPONENT.exec(body)[1];
+  return `import React from "react";\n${outputText}\nexport { ${component} as component };`;
 }
 
 let number = 0;
@@ -56,9 +68,14 @@ for (const document of documents) {
     const { component } = await import(pathToFileURL(file));
     clearTimeout(ending);
     if (prints !== null) assert.equal(`${shown.join("\n")}\n`, prints, place);
-    if (kind === "jsx") assert.match(needs("react-dom/server").renderToString(needs("react").createElement(component)), /Shopping/, place);
+    if (kind === "jsx") {
+      const element = needs("react").createElement(component);
+      assert.match(needs("react-dom/server").renderToString(element), /Shopping/, place);
+    }
   }
-  if (found.length > 0) console.log(`${document.split("/").slice(-2).join("/")}: ${found.length} snippets run in node`);
+  if (found.length > 0) {
+    console.log(`${document.split("/").slice(-2).join("/")}: ${found.length} snippets run in node`);
+  }
 }
 assert.ok(number > 0, "no snippets");
 process.exit();

@@ -67,9 +67,15 @@ async def run_part(snippet, url, board):
 
 
 async def run_program(snippet, relay, room):
-    body = re.sub(r"ws://127\.0\.0\.1:8080/rooms/\w+", f"ws://127.0.0.1:{relay.port}/rooms/{room}", snippet.body)
+    body = re.sub(
+        r"ws://127\.0\.0\.1:8080/rooms/\w+",
+        f"ws://127.0.0.1:{relay.port}/rooms/{room}",
+        snippet.body,
+    )
     words, pipe = [sys.executable, "-u", "-c", body], asyncio.subprocess.PIPE
-    program = await asyncio.create_subprocess_exec(*words, stdout=pipe, env={**os.environ, "PYTHONPATH": PACKAGE})
+    program = await asyncio.create_subprocess_exec(
+        *words, stdout=pipe, env={**os.environ, "PYTHONPATH": PACKAGE}
+    )
     try:
         while True:
             line = (await asyncio.wait_for(program.stdout.readline(), PATIENCE)).decode()
@@ -94,7 +100,8 @@ TYPED = [
 
 
 async def use_board(relay):
-    words, pipe = [sys.executable, f"{ROOT}/examples/board.py", str(relay.port), "board"], asyncio.subprocess.PIPE
+    words = [sys.executable, f"{ROOT}/examples/board.py", str(relay.port), "board"]
+    pipe = asyncio.subprocess.PIPE
     program = await asyncio.create_subprocess_exec(*words, stdin=pipe, stdout=pipe)
     try:
         for typed, prints in TYPED:
@@ -134,7 +141,10 @@ async def main(*documents):
             for number, snippet in enumerate(snippets(document), number + 1):
                 await checked(snippet.place, run(snippet, relay, f"p{number}"))
             if number > first:
-                print(f"{os.path.relpath(document, ROOT)}: {number - first} snippets run in Python", flush=True)
+                print(
+                    f"{os.path.relpath(document, ROOT)}: {number - first} snippets run in Python",
+                    flush=True,
+                )
         await checked("examples/board.py", use_board(relay))
     finally:
         await relay.end()

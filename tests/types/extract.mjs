@@ -11,7 +11,10 @@ for (const document of documents) {
   const found = snippets(document).filter(({ kind }) => kind !== "html");
   for (const { kind, body, line } of found) {
     // A module, also where it imports nothing.
-    writeFileSync(join(folder, `${name.replace(/\W/g, "_")}-${line}.${kind === "jsx" ? "tsx" : kind}`), `${body}export {};\n`);
+    writeFileSync(
+      join(folder, `${name.replace(/\W/g, "_")}-${line}.${kind === "jsx" ? "tsx" : kind}`),
+      `${body}export {};\n`,
+    );
   }
   if (found.length > 0) console.log(`${name}: ${found.length} snippets`);
 }

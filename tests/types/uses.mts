@@ -1,6 +1,15 @@
 // How an application in TypeScript uses the client: it compiles in strict mode, and what is marked
 // does not.
-import { Refused, connect, inspected, pointer, presence, room, type Board, type Json } from "@bolsteregret/relay";
+import {
+  Refused,
+  connect,
+  inspected,
+  pointer,
+  presence,
+  room,
+  type Board,
+  type Json,
+} from "@bolsteregret/relay";
 
 interface Card {
   text: string;
@@ -20,7 +29,10 @@ const view = ["/cards", { size: "/cards" }, "/title"] as const;
 const card: Card = { text: "milk" };
 
 // Without a type of the document: the slots are as many as the pointers, and a size is a number.
-const plain = connect(url, { view: ["/title", { size: "/cards" }], onChange: ({ slots: [title, size] }) => use<number | undefined>(size[0] ?? title[0]) });
+const plain = connect(url, {
+  view: ["/title", { size: "/cards" }],
+  onChange: ({ slots: [title, size] }) => use<number | undefined>(size[0] ?? title[0]),
+});
 use<number | undefined>(plain.slots?.[1][0]);
 
 // With the document's type: places by their pointers.
@@ -37,7 +49,10 @@ plan.at("/title").set(5);
 use<string | undefined>(plan.at("/titel").value);
 
 // With the view's type as well: the slots by their pointers. A view may be read-only.
-const whole = connect<Plan, typeof view>(url, { view, onChange: ({ confirmed }) => use<string | undefined>(confirmed[2][0]) });
+const whole = connect<Plan, typeof view>(url, {
+  view,
+  onChange: ({ confirmed }) => use<string | undefined>(confirmed[2][0]),
+});
 use<Card[]>(whole.slots?.[0][0] ?? []);
 use<number | undefined>(whole.slots?.[1][0]);
 // @ts-expect-error: the view has three slots.
@@ -64,10 +79,15 @@ use<Promise<number>>(plan.at("/cards").insert(0, card));
 plan.at("/cards").push("milk");
 use<Promise<number>>(plain.change((draft) => draft.anything.at.all.push(1)));
 
-connect(url, { view: [], WebSocket: inspected(({ way, message }) => use<string>(way + message.kind)) });
+connect(url, {
+  view: [],
+  WebSocket: inspected(({ way, message }) => use<string>(way + message.kind)),
+});
 
 // An interface is written as it is.
-use<Promise<number>>(whole.edit([{ op: "add", path: "/cards/-", value: card }], { base: whole.rev, optimistic: true }));
+use<Promise<number>>(
+  whole.edit([{ op: "add", path: "/cards/-", value: card }], { base: whole.rev, optimistic: true }),
+);
 // @ts-expect-error: JSON has no functions among its scalars.
 use<Json>(() => 0);
 // @ts-expect-error: a removal has no value to move from.

@@ -1,7 +1,13 @@
 // An application of React with the hooks of the JavaScript client, in strict mode.
 import { StrictMode, useState } from "react";
 import { connect } from "@bolsteregret/relay";
-import { useBoard, useChange, useConnection, usePresence, useSlot } from "@bolsteregret/relay/react";
+import {
+  useBoard,
+  useChange,
+  useConnection,
+  usePresence,
+  useSlot,
+} from "@bolsteregret/relay/react";
 
 /** How often each component was drawn. */
 export const drawn = { count: 0, first: 0, long: 0 };
@@ -21,7 +27,12 @@ function First({ board }) {
 // What it selects is another list each time.
 function Long({ board }) {
   drawn.long += 1;
-  const long = useSlot(board, "/cards", (cards) => (cards ?? []).filter((card) => card.length > 4), same);
+  const long = useSlot(
+    board,
+    "/cards",
+    (cards) => (cards ?? []).filter((card) => card.length > 4),
+    same,
+  );
   return <b id="long">{long.join()}</b>;
 }
 

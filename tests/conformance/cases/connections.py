@@ -38,7 +38,10 @@ def what_was_missed_comes_as_a_patch(driver):
     play.holds_present(CARDS)
 
 
-@case("`resumed` with `snapshot`: the room no longer holds what was missed, and a snapshot replaces the slots.")
+@case(
+    "`resumed` with `snapshot`: the room no longer holds what was missed, and a snapshot replaces "
+    "the slots."
+)
 def what_was_missed_comes_as_a_snapshot(driver):
     play = begun(driver)
     play.cut()
@@ -49,7 +52,10 @@ def what_was_missed_comes_as_a_snapshot(driver):
     play.holds_present(CARDS)
 
 
-@case("A patch that was lost with its connection comes again, since the resume names the revision held.")
+@case(
+    "A patch that was lost with its connection comes again, since the resume names the revision "
+    "held."
+)
 def a_patch_on_the_way_is_lost_with_its_connection(driver):
     play = begun(driver)
     play.relay.edit(push("bread"))
@@ -71,7 +77,10 @@ def one_connection_after_another(driver):
         play.holds_present(CARDS)
 
 
-@case("`resumed` makes nothing newer. If the promised patch is lost, the next resume is of the same revision.")
+@case(
+    "`resumed` makes nothing newer. If the promised patch is lost, the next resume is of the same "
+    "revision."
+)
 def a_connection_lost_before_the_promised_patch(driver):
     play = begun(driver)
     play.cut()

@@ -3,7 +3,10 @@ from driver import Failed
 from .common import CARDS, begun, case, push, replace
 
 
-@case("An edit is sent as it is. Its `done` ends it, and makes nothing newer that is held: that the patch does.")
+@case(
+    "An edit is sent as it is. Its `done` ends it, and makes nothing newer that is held: that the "
+    "patch does."
+)
 def an_edit_is_answered(driver):
     play = begun(driver)
     key = play.edit(push("bread"))
@@ -18,7 +21,10 @@ def an_edit_is_answered(driver):
     play.holds(CARDS, [[["milk", "tea", "bread"]]], 2)
 
 
-@case("An edit that touches no slot is done, and no message comes for it: the slots stay, and so does their revision.")
+@case(
+    "An edit that touches no slot is done, and no message comes for it: the slots stay, and so "
+    "does their revision."
+)
 def an_edit_elsewhere_leaves_what_is_held(driver):
     play = begun(driver)
     key = play.edit(replace("/n", 2))
@@ -28,7 +34,10 @@ def an_edit_elsewhere_leaves_what_is_held(driver):
     play.holds(CARDS, [[["milk", "tea"]]], 1)
 
 
-@case("An edit that makes no change, as a `move` to its own place, ends with its `done`: no patch comes that it could wait for.")
+@case(
+    "An edit that makes no change, as a `move` to its own place, ends with its `done`: no patch "
+    "comes that it could wait for."
+)
 def an_edit_without_a_change_is_done(driver):
     play = begun(driver)
     keys = [
@@ -46,7 +55,9 @@ def an_edit_without_a_change_is_done(driver):
     play.holds_present(CARDS)
 
 
-@case("A `done` may come before the patches of earlier revisions, which are applied in their order.")
+@case(
+    "A `done` may come before the patches of earlier revisions, which are applied in their order."
+)
 def done_may_come_before_earlier_patches(driver):
     play = begun(driver)
     key = play.edit(push("bread"))
@@ -74,7 +85,11 @@ def a_refused_edit_changes_nothing(driver):
 @case("Edits are sent in their order, and replies belong to them in that order.")
 def replies_come_in_the_order_of_requests(driver):
     play = begun(driver)
-    keys = [play.edit(push("a")), play.edit({"op": "remove", "path": "/none"}), play.edit(push("b"))]
+    keys = [
+        play.edit(push("a")),
+        play.edit({"op": "remove", "path": "/none"}),
+        play.edit(push("b")),
+    ]
     requests = play.asked("edit", "edit", "edit")
     if [request["patch"][0].get("value") for request in requests] != ["a", None, "b"]:
         raise Failed(f"edits are not sent in their order: {requests}")
@@ -97,7 +112,10 @@ def a_refusal_without_an_id_answers_the_oldest_request(driver):
     play.ended(keys[1], done=3)
 
 
-@case("An edit with a base is sent with it. If the room is past it, the edit ends as `stale`, with the room's revision.")
+@case(
+    "An edit with a base is sent with it. If the room is past it, the edit ends as `stale`, with "
+    "the room's revision."
+)
 def a_stale_edit_is_refused_with_the_revision(driver):
     play = begun(driver)
     play.relay.edit(replace("/n", 2))
@@ -121,7 +139,10 @@ def an_edit_on_its_base_is_done(driver):
     play.holds_present(CARDS)
 
 
-@case("At most 31 requests are without a reply: with one more the relay may stop reading. The others wait, and are sent in their order.")
+@case(
+    "At most 31 requests are without a reply: with one more the relay may stop reading. The others "
+    "wait, and are sent in their order."
+)
 def at_most_31_requests_are_on_the_way(driver):
     play = begun(driver)
     keys = [play.edit(push(card)) for card in range(70)]

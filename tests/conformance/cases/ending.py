@@ -11,7 +11,10 @@ def asks_for_the_end(play, base):
         raise Failed(f"it says {request}, and does not end the room of revision {base}")
 
 
-@case("A room is ended by a replacement of the whole document, with the revision held as base.", **ENDS)
+@case(
+    "A room is ended by a replacement of the whole document, with the revision held as base.",
+    **ENDS,
+)
 def a_room_is_ended_by_null(driver):
     play = begun(driver)
     play.relay.edit(push("bread"))

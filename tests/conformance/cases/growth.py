@@ -5,12 +5,20 @@ LATER = {"later": {"op": "remove", "path": ""}, "zone": [None]}
 """Members that no message has today."""
 
 
-@case("A `fault` that the client does not know is a refusal like any other: it ends the request that it answers, by its own word.")
+@case(
+    "A `fault` that the client does not know is a refusal like any other: it ends the request that "
+    "it answers, by its own word."
+)
 def an_unknown_fault_is_a_refusal(driver):
     play = begun(driver)
     keys = [play.edit(push("a")), play.edit(push("b"))]
     play.asked("edit", "edit")
-    play.relay.replies[0] = {"at": 0, "fault": "unheard-of", "id": play.relay.replies[0]["id"], "kind": "refused"}
+    play.relay.replies[0] = {
+        "at": 0,
+        "fault": "unheard-of",
+        "id": play.relay.replies[0]["id"],
+        "kind": "refused",
+    }
     play.draw(1)
     play.ended(keys[0], refused="unheard-of", at=0)
     play.has_not_ended(keys[1])
@@ -40,7 +48,13 @@ def unknown_members_are_ignored(driver):
     play.draw()
     play.ended(key, done=2)
     play.holds_present(CARDS)
-    play.say({"kind": "patch", "patch": [{"op": "remove", "path": "/0/0/2", "value": 7, "from": "/1", "later": []}], "rev": 3})
+    play.say(
+        {
+            "kind": "patch",
+            "patch": [{"op": "remove", "path": "/0/0/2", "value": 7, "from": "/1", "later": []}],
+            "rev": 3,
+        }
+    )
     play.holds(CARDS, [[["milk", "tea"]]], 3)
     play.relay.edit({"op": "remove", "path": "/cards/2"})
     play.cut()

@@ -30,7 +30,10 @@ def is_too_long(play, key):
     play.ended(key, refused="too-long")
 
 
-@case("A text of more than 1,056,768 bytes ends the connection each time that it is sent: it is not sent, and ends as `too-long`.")
+@case(
+    "A text of more than 1,056,768 bytes ends the connection each time that it is sent: it is not "
+    "sent, and ends as `too-long`."
+)
 def a_text_that_ends_the_connection_is_not_sent(driver):
     play = begun(driver)
     around = bytes_around(play)
@@ -55,7 +58,10 @@ def a_text_that_the_relay_reads_is_sent(driver):
     play.ended(key, done=3)
 
 
-@case("A view whose text would end the connection is not sent. It is refused as `too-long`, and the one before stays.")
+@case(
+    "A view whose text would end the connection is not sent. It is refused as `too-long`, and the "
+    "one before stays."
+)
 def a_view_that_ends_the_connection_is_not_sent(driver):
     play = begun(driver)
     is_too_long(play, play.watch(["/" + "x" * LONGEST_TEXT]))

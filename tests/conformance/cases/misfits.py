@@ -3,8 +3,23 @@ from play import Play
 from relay import Relay
 from .common import BOARD, CARDS, begun, case, push, replace
 
-NO_JSON = ["", "{", "watching", '{"kind":"patch","patch":[],"rev":2} 7', '{"kind":"snapshot","rev":2,"view":[[[]]]}}']
-NO_MESSAGES = ["null", "7", "[]", '"done"', "{}", '{"kind":null}', '{"id":1,"kind":["done"],"rev":2}', '{"kind":"snapshot","rev":2}']
+NO_JSON = [
+    "",
+    "{",
+    "watching",
+    '{"kind":"patch","patch":[],"rev":2} 7',
+    '{"kind":"snapshot","rev":2,"view":[[[]]]}}',
+]
+NO_MESSAGES = [
+    "null",
+    "7",
+    "[]",
+    '"done"',
+    "{}",
+    '{"kind":null}',
+    '{"id":1,"kind":["done"],"rev":2}',
+    '{"kind":"snapshot","rev":2}',
+]
 
 
 def is_dropped(play, text):
@@ -17,21 +32,30 @@ def is_dropped(play, text):
     play.holds_present(CARDS)
 
 
-@case("A text that is no JSON says that something is wrong: the client drops the connection, and watches on the next one.")
+@case(
+    "A text that is no JSON says that something is wrong: the client drops the connection, and "
+    "watches on the next one."
+)
 def a_text_that_is_no_json_is_dropped(driver):
     play = begun(driver)
     for text in NO_JSON:
         is_dropped(play, text)
 
 
-@case("JSON that is no message says that something is wrong: the client drops the connection, and watches on the next one.")
+@case(
+    "JSON that is no message says that something is wrong: the client drops the connection, and "
+    "watches on the next one."
+)
 def json_that_is_no_message_is_dropped(driver):
     play = begun(driver)
     for text in NO_MESSAGES:
         is_dropped(play, text)
 
 
-@case("A message of another `kind` is no reply, and comes to nobody who did not ask for it. The client drops the connection.")
+@case(
+    "A message of another `kind` is no reply, and comes to nobody who did not ask for it. The "
+    "client drops the connection."
+)
 def a_message_of_another_kind_answers_nothing(driver):
     play = begun(driver)
     key = play.edit(replace("/n", 2))
@@ -43,7 +67,10 @@ def a_message_of_another_kind_answers_nothing(driver):
     play.holds_present(CARDS)
 
 
-@case("A reply with the `id` of another request than the oldest answers neither of them. The client drops the connection.")
+@case(
+    "A reply with the `id` of another request than the oldest answers neither of them. The client "
+    "drops the connection."
+)
 def a_reply_to_another_request_answers_nothing(driver):
     play = begun(driver)
     keys = [play.edit(push("a")), play.edit(push("b"))]
@@ -57,7 +84,10 @@ def a_reply_to_another_request_answers_nothing(driver):
     play.holds_present(CARDS)
 
 
-@case("A reply that comes when no request is without one, or a second welcome, is wrong. The client drops the connection.")
+@case(
+    "A reply that comes when no request is without one, or a second welcome, is wrong. The client "
+    "drops the connection."
+)
 def a_reply_without_a_request_is_dropped(driver):
     play = begun(driver)
     for reply in [
@@ -71,7 +101,10 @@ def a_reply_without_a_request_is_dropped(driver):
         play.holds_present(CARDS)
 
 
-@case("A snapshot before `watching` is of no view, and a patch behind it that comes before the snapshot too. Neither is taken.")
+@case(
+    "A snapshot before `watching` is of no view, and a patch behind it that comes before the "
+    "snapshot too. Neither is taken."
+)
 def slots_of_no_view_are_not_taken(driver):
     play = Play(driver, Relay(BOARD), CARDS)
     play.accept()

@@ -9,7 +9,11 @@ def optimistic(play, *patch):
     return play.edit(*patch, optimistic=True)
 
 
-@case("An edit shows at once. Its `done` leaves it laid over the slots until they have its revision; it never shows twice.", needs="optimistic")
+@case(
+    "An edit shows at once. Its `done` leaves it laid over the slots until they have its "
+    "revision; it never shows twice.",
+    needs="optimistic",
+)
 def an_edit_shows_until_the_slots_have_its_revision(driver):
     play = begun(driver)
     key = optimistic(play, push("bread"))
@@ -25,7 +29,11 @@ def an_edit_shows_until_the_slots_have_its_revision(driver):
     play.shows([[[*SHOWN, "bread"]]])
 
 
-@case("In an edit that is laid over the slots, `-` is the place behind the last element as it is then.", needs="optimistic")
+@case(
+    "In an edit that is laid over the slots, `-` is the place behind the last element as it is "
+    "then.",
+    needs="optimistic",
+)
 def an_edit_at_the_end_is_laid_over(driver):
     play = begun(driver, ["/cards", {"size": "/cards"}])
     optimistic(play, push("a"), push("b"))
@@ -37,7 +45,10 @@ def an_edit_at_the_end_is_laid_over(driver):
     play.shows([[["tea", "a", "b", "c", "milk", "tea"]], [6]])
 
 
-@case("Another client's edit comes below those that wait: they are laid over the new slots.", needs="optimistic")
+@case(
+    "Another client's edit comes below those that wait: they are laid over the new slots.",
+    needs="optimistic",
+)
 def an_edit_is_laid_over_newer_slots(driver):
     play = begun(driver)
     optimistic(play, push("bread"))
@@ -59,7 +70,10 @@ def a_refused_edit_is_taken_off(driver):
     play.shows([[[*SHOWN, "bread"]]])
 
 
-@case("An edit whose answer was lost is taken off. If it was done, it comes as any other edit.", needs="optimistic")
+@case(
+    "An edit whose answer was lost is taken off. If it was done, it comes as any other edit.",
+    needs="optimistic",
+)
 def an_unknown_edit_is_taken_off(driver):
     play = begun(driver)
     optimistic(play, push("bread"))
@@ -71,7 +85,11 @@ def an_unknown_edit_is_taken_off(driver):
     play.shows([[[*SHOWN, "bread"]]])
 
 
-@case("A done edit whose patch was lost with its connection stays laid over until the slots have its revision.", needs="optimistic")
+@case(
+    "A done edit whose patch was lost with its connection stays laid over until the slots have "
+    "its revision.",
+    needs="optimistic",
+)
 def a_done_edit_stays_over_a_lost_connection(driver):
     play = begun(driver)
     optimistic(play, push("bread"))
@@ -85,7 +103,11 @@ def a_done_edit_stays_over_a_lost_connection(driver):
     play.shows([[[*SHOWN, "bread"]]])
 
 
-@case("An edit that was done in another epoch is gone with its document: slots of the new epoch take it off.", needs="optimistic")
+@case(
+    "An edit that was done in another epoch is gone with its document: slots of the new epoch "
+    "take it off.",
+    needs="optimistic",
+)
 def a_done_edit_ends_with_its_run(driver):
     play = begun(driver)
     optimistic(play, push("bread"))

@@ -28,17 +28,38 @@ def all_operations_of_a_patch(driver):
     for rev, (patch, slots) in enumerate(
         [
             ([{"op": "move", "from": "/0/0/0", "path": "/0/0/1"}], [[["tea", "milk"]], [1]]),
-            ([{"op": "copy", "from": "/0/0/1", "path": "/0/0/0"}], [[["milk", "tea", "milk"]], [1]]),
-            ([{"op": "add", "path": "/0/0/3", "value": {"x": {"y": []}}}], [[["milk", "tea", "milk", {"x": {"y": []}}]], [1]]),
-            ([{"op": "add", "path": "/0/0/3/x/y/0", "value": 7}], [[["milk", "tea", "milk", {"x": {"y": [7]}}]], [1]]),
+            (
+                [{"op": "copy", "from": "/0/0/1", "path": "/0/0/0"}],
+                [[["milk", "tea", "milk"]], [1]],
+            ),
+            (
+                [{"op": "add", "path": "/0/0/3", "value": {"x": {"y": []}}}],
+                [[["milk", "tea", "milk", {"x": {"y": []}}]], [1]],
+            ),
+            (
+                [{"op": "add", "path": "/0/0/3/x/y/0", "value": 7}],
+                [[["milk", "tea", "milk", {"x": {"y": [7]}}]], [1]],
+            ),
             (
                 [{"op": "copy", "from": "/0/0/3/x", "path": "/0/0/3/z"}],
                 [[["milk", "tea", "milk", {"x": {"y": [7]}, "z": {"y": [7]}}]], [1]],
             ),
-            ([{"op": "add", "path": "/0/0/3/z/y/1", "value": 8}], [[["milk", "tea", "milk", {"x": {"y": [7]}, "z": {"y": [7, 8]}}]], [1]]),
-            ([{"op": "move", "from": "/0/0/3/z", "path": "/0/0/3/x"}], [[["milk", "tea", "milk", {"x": {"y": [7, 8]}}]], [1]]),
-            ([replace("/0/0/3/x/y/1", None)], [[["milk", "tea", "milk", {"x": {"y": [7, None]}}]], [1]]),
-            ([{"op": "remove", "path": "/0/0/3/x"}, {"op": "remove", "path": "/0/0/1"}], [[["milk", "milk", {}]], [1]]),
+            (
+                [{"op": "add", "path": "/0/0/3/z/y/1", "value": 8}],
+                [[["milk", "tea", "milk", {"x": {"y": [7]}, "z": {"y": [7, 8]}}]], [1]],
+            ),
+            (
+                [{"op": "move", "from": "/0/0/3/z", "path": "/0/0/3/x"}],
+                [[["milk", "tea", "milk", {"x": {"y": [7, 8]}}]], [1]],
+            ),
+            (
+                [replace("/0/0/3/x/y/1", None)],
+                [[["milk", "tea", "milk", {"x": {"y": [7, None]}}]], [1]],
+            ),
+            (
+                [{"op": "remove", "path": "/0/0/3/x"}, {"op": "remove", "path": "/0/0/1"}],
+                [[["milk", "milk", {}]], [1]],
+            ),
             ([replace("/1", []), replace("/0", [0])], [[0], []]),
         ],
         start=2,
@@ -61,7 +82,10 @@ def a_patch_may_add_at_the_end(driver):
     play.holds(CARDS, [[[{"-": 2}, "a", [1], [1]]]], 2)
 
 
-@case("A `copy` adds another value: within the same patch too, what is done to one of the two leaves the other.")
+@case(
+    "A `copy` adds another value: within the same patch too, what is done to one of the two leaves "
+    "the other."
+)
 def a_copy_is_another_value(driver):
     play = begun(driver, document={"cards": [{"x": {"y": []}}]})
     patch = [
@@ -79,12 +103,19 @@ def a_copy_is_another_value(driver):
         {"op": "copy", "from": "/0/0/1", "path": "/0/0/2"},
         {"op": "add", "path": "/0/0/2/x/y/0", "value": 5},
     ]
-    wanted = [{"x": {"y": [1], "z": 3}, "w": {"y": [4]}}, {"x": {"y": [1, 2]}}, {"x": {"y": [5, 1, 2]}}]
+    wanted = [
+        {"x": {"y": [1], "z": 3}, "w": {"y": [4]}},
+        {"x": {"y": [1, 2]}},
+        {"x": {"y": [5, 1, 2]}},
+    ]
     play.say({"kind": "patch", "patch": patch, "rev": 2})
     play.holds(CARDS, [[wanted]], 2)
 
 
-@case("A value that is added twice is two values, and a value that moved is changed where it stands now.")
+@case(
+    "A value that is added twice is two values, and a value that moved is changed where it stands "
+    "now."
+)
 def values_of_a_patch_are_its_own(driver):
     play = begun(driver, document={"cards": [[]]})
     patch = [
@@ -114,7 +145,10 @@ def long_patches_and_deep_paths(driver):
     play.holds([""], [[{"cards": wanted}]], 2)
 
 
-@case("A patch whose revision is not above the one held does not follow from it: nothing of it is applied, and the client watches anew.")
+@case(
+    "A patch whose revision is not above the one held does not follow from it: nothing of it is "
+    "applied, and the client watches anew."
+)
 def an_older_patch_is_not_applied(driver):
     play = begun(driver)
     play.relay.edit(push("bread"))
@@ -126,10 +160,19 @@ def an_older_patch_is_not_applied(driver):
     play.holds_present(CARDS)
 
 
-@case("A patch that does not fit the slots is applied in no part, and is not passed over either: the client watches anew.")
+@case(
+    "A patch that does not fit the slots is applied in no part, and is not passed over either: the "
+    "client watches anew."
+)
 def a_patch_that_does_not_fit_is_not_applied(driver):
     play = begun(driver)
-    play.say({"kind": "patch", "patch": [{"op": "remove", "path": "/0/0/0"}, {"op": "remove", "path": "/0/0/9"}], "rev": 5})
+    play.say(
+        {
+            "kind": "patch",
+            "patch": [{"op": "remove", "path": "/0/0/0"}, {"op": "remove", "path": "/0/0/9"}],
+            "rev": 5,
+        }
+    )
     play.holds(CARDS, [[["milk", "tea"]]], 1)
     play.relay.edit(push("bread"))
     play.asks_anew()
@@ -137,7 +180,10 @@ def a_patch_that_does_not_fit_is_not_applied(driver):
     play.holds_present(CARDS)
 
 
-@case("Each way in which an operation does not fit is seen: nothing there, a place past the end, no container, no index, no pointer.")
+@case(
+    "Each way in which an operation does not fit is seen: nothing there, a place past the end, no "
+    "container, no index, no pointer."
+)
 def each_misfit_is_seen(driver):
     play = begun(driver)
     for operation in [

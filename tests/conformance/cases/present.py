@@ -26,7 +26,9 @@ def is_seen(play, times):
 
 
 def is_written(request):
-    return request.get("do") == "edit" and any(operation["path"].startswith("/here/") for operation in request["patch"])
+    return request.get("do") == "edit" and any(
+        operation["path"].startswith("/here/") for operation in request["patch"]
+    )
 
 
 def comes(play):
@@ -39,7 +41,9 @@ def comes(play):
     return play.relay.will
 
 
-@case("Who is present leaves a will and then writes its entry, which that will takes away.", **PRESENT)
+@case(
+    "Who is present leaves a will and then writes its entry, which that will takes away.", **PRESENT
+)
 def an_entry_comes_behind_its_will(driver):
     play = alone(driver)
     key = play.present("/here", ANN)
@@ -51,7 +55,11 @@ def an_entry_comes_behind_its_will(driver):
     is_seen(play, 0)
 
 
-@case("On the next connection the entry is written again. The will of the session before may be done late, and leaves it.", **PRESENT)
+@case(
+    "On the next connection the entry is written again. The will of the session before may be "
+    "done late, and leaves it.",
+    **PRESENT,
+)
 def a_late_will_leaves_the_entry(driver):
     play = alone(driver)
     play.present("/here", ANN)

@@ -2,7 +2,10 @@
 from .common import CARDS, back, begun, case, push
 
 
-@case("Another epoch is another document: the slots stay until its snapshot replaces them, and their revision and epoch with them.")
+@case(
+    "Another epoch is another document: the slots stay until its snapshot replaces them, and their "
+    "revision and epoch with them."
+)
 def another_run_brings_a_snapshot(driver):
     play = begun(driver, rev=9)
     play.cut()
@@ -26,7 +29,10 @@ def another_run_at_the_same_revision(driver):
     play.holds(CARDS, [[["other"]]], 1, epoch=8)
 
 
-@case("If the connection to the next run is lost before its snapshot, the slots and their epoch are still the old ones.")
+@case(
+    "If the connection to the next run is lost before its snapshot, the slots and their epoch are "
+    "still the old ones."
+)
 def the_epoch_is_that_of_the_slots(driver):
     play = begun(driver)
     play.cut()
@@ -40,7 +46,10 @@ def the_epoch_is_that_of_the_slots(driver):
     play.holds(CARDS, [[["second"]]], 5, epoch=8)
 
 
-@case("`future`: the room is not at the revision yet that the client holds. It forgets that, and watches.")
+@case(
+    "`future`: the room is not at the revision yet that the client holds. It forgets that, and "
+    "watches."
+)
 def an_epoch_that_was_given_twice(driver):
     play = begun(driver, rev=9)
     play.cut()

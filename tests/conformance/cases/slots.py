@@ -5,7 +5,10 @@ from relay import Relay
 from .common import BOARD, CARDS, back, begun, case, push, replace
 
 
-@case("The first request is a watch. Slots come with the snapshot alone, and neither `welcome` nor `watching` makes any.")
+@case(
+    "The first request is a watch. Slots come with the snapshot alone, and neither `welcome` nor "
+    "`watching` makes any."
+)
 def a_watch_is_answered_by_a_snapshot(driver):
     play = Play(driver, Relay(BOARD), CARDS)
     play.accept()
@@ -30,10 +33,17 @@ def the_revision_of_the_welcome_is_not_that_of_the_slots(driver):
 
 @case("A view has up to 16 slots, in the order of its pointers.")
 def sixteen_slots(driver):
-    begun(driver, [f"/cards/{place}" for place in range(8)] + [{"size": f"/cards/{place}"} for place in range(8)])
+    begun(
+        driver,
+        [f"/cards/{place}" for place in range(8)]
+        + [{"size": f"/cards/{place}"} for place in range(8)],
+    )
 
 
-@case("Each message replaces what is held by what it says, and an edit elsewhere says nothing: the revision held passes over it.")
+@case(
+    "Each message replaces what is held by what it says, and an edit elsewhere says nothing: the "
+    "revision held passes over it."
+)
 def revisions_may_be_passed_over(driver):
     play = begun(driver)
     for _ in range(5):
@@ -45,7 +55,10 @@ def revisions_may_be_passed_over(driver):
     play.holds(CARDS, [[["milk", "tea", "bread"]]], 7)
 
 
-@case("A snapshot may come at any time. It replaces the slots and the revision, and patches go on from there.")
+@case(
+    "A snapshot may come at any time. It replaces the slots and the revision, and patches go on "
+    "from there."
+)
 def a_snapshot_comes_in_place_of_patches(driver):
     play = begun(driver)
     play.relay.edit(push("bread"))

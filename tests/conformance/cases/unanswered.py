@@ -19,7 +19,10 @@ def an_edit_without_an_answer_is_unknown(driver):
         raise Failed("the edit was done twice")
 
 
-@case("An edit that was sent is unknown, also if the relay never read it: the client cannot know that.")
+@case(
+    "An edit that was sent is unknown, also if the relay never read it: the client cannot know "
+    "that."
+)
 def an_edit_that_was_not_read_is_unknown(driver):
     play = begun(driver)
     key = play.edit(push("bread"))
@@ -74,7 +77,10 @@ def a_client_that_ends_leaves(driver):
         raise Failed("it leaves the connection open")
 
 
-@case("An edit with a base whose text ends each of its connections, as one that is too long does, is not sent again without end.")
+@case(
+    "An edit with a base whose text ends each of its connections, as one that is too long does, is "
+    "not sent again without end."
+)
 def an_edit_that_ends_each_connection_comes_to_an_end(driver):
     play = begun(driver)
     key = play.edit(push("bread"), base=1)

@@ -2,7 +2,10 @@
 from .common import CARDS, back, begun, case, push, replace
 
 
-@case("What comes before `watching` belongs to the old view. Behind it the first message that is no reply is the new view's snapshot.")
+@case(
+    "What comes before `watching` belongs to the old view. Behind it the first message that is no "
+    "reply is the new view's snapshot."
+)
 def patches_before_watching_are_of_the_old_view(driver):
     play = begun(driver)
     play.relay.edit(push("bread"))
@@ -20,7 +23,10 @@ def patches_before_watching_are_of_the_old_view(driver):
     play.ended(key, shown=[[1]])
 
 
-@case("A view that is refused ends its request, and the one before it stays, also on the next connection.")
+@case(
+    "A view that is refused ends its request, and the one before it stays, also on the next "
+    "connection."
+)
 def a_refused_view_leaves_the_one_before(driver):
     play = begun(driver)
     key = play.watch(["/n", "n"])
@@ -45,7 +51,10 @@ def two_views_one_after_the_other(driver):
     play.holds_present(["/players"])
 
 
-@case("If the view changes while there is no connection, the old slots stay, and the next connection brings those of the new view.")
+@case(
+    "If the view changes while there is no connection, the old slots stay, and the next connection "
+    "brings those of the new view."
+)
 def a_view_that_changes_while_offline(driver):
     play = begun(driver)
     play.cut()
@@ -57,7 +66,10 @@ def a_view_that_changes_while_offline(driver):
     play.holds_present(["/n"])
 
 
-@case("A view whose `watching` was lost is asked for again. Until its snapshot the old view's slots stay.")
+@case(
+    "A view whose `watching` was lost is asked for again. Until its snapshot the old view's slots "
+    "stay."
+)
 def a_view_that_was_asked_for_when_the_connection_was_lost(driver):
     play = begun(driver)
     play.watch(["/n"])
@@ -70,7 +82,10 @@ def a_view_that_was_asked_for_when_the_connection_was_lost(driver):
     play.holds_present(["/n"])
 
 
-@case("After `watching` and before the snapshot the slots are still the old view's, also if the connection is lost there.")
+@case(
+    "After `watching` and before the snapshot the slots are still the old view's, also if the "
+    "connection is lost there."
+)
 def a_connection_lost_between_watching_and_its_snapshot(driver):
     play = begun(driver)
     play.watch(["/n"])

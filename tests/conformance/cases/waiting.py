@@ -27,7 +27,10 @@ def were_done(play, taken):
             raise Failed(f"edit {key} was done, and ends with {play.end_of(key)}")
 
 
-@case("An edit that is made while there is no connection is refused at once, or sent on the next one, behind what asks for the slots.")
+@case(
+    "An edit that is made while there is no connection is refused at once, or sent on the next "
+    "one, behind what asks for the slots."
+)
 def edits_made_while_offline_are_done_in_their_order(driver):
     play = begun(driver)
     play.cut()
@@ -40,7 +43,10 @@ def edits_made_while_offline_are_done_in_their_order(driver):
     were_done(play, taken)
 
 
-@case("An edit that is made before the first connection is refused at once, or sent on it, behind the watch.")
+@case(
+    "An edit that is made before the first connection is refused at once, or sent on it, behind "
+    "the watch."
+)
 def edits_made_before_the_first_connection_are_done_in_their_order(driver):
     play = Play(driver, Relay(BOARD), CARDS)
     taken = made_offline(play, "abc")
@@ -50,7 +56,10 @@ def edits_made_before_the_first_connection_are_done_in_their_order(driver):
     were_done(play, taken)
 
 
-@case("If the connection is lost, edits that were sent are unknown, and those that still wait are sent on the next one, in their order.")
+@case(
+    "If the connection is lost, edits that were sent are unknown, and those that still wait are "
+    "sent on the next one, in their order."
+)
 def edits_that_wait_behind_others_are_sent_on_the_next_connection(driver):
     play = begun(driver)
     keys = [play.edit(push(card)) for card in range(40)]
@@ -64,11 +73,17 @@ def edits_that_wait_behind_others_are_sent_on_the_next_connection(driver):
     play.talk()
     for key in keys[sent:]:
         if "done" not in (play.end_of(key) or {}):
-            raise Failed(f"edit {key} was not sent when the connection was lost, and ends with {play.end_of(key)}")
+            raise Failed(
+                f"edit {key} was not sent when the connection was lost, and ends with "
+                f"{play.end_of(key)}"
+            )
     play.holds(CARDS, [[["milk", "tea", *range(40)]]], 41)
 
 
-@case("An edit with a base that waited for the connection is sent with that base, and is done if the room is still there.")
+@case(
+    "An edit with a base that waited for the connection is sent with that base, and is done if the "
+    "room is still there."
+)
 def an_edit_with_a_base_waits_for_its_run(driver):
     play = begun(driver)
     play.cut()
@@ -79,7 +94,10 @@ def an_edit_with_a_base_waits_for_its_run(driver):
     were_done(play, taken)
 
 
-@case("An edit with a base that was not sent yet is not sent to another epoch. It ends as `stale`: it was not done, and will not be.")
+@case(
+    "An edit with a base that was not sent yet is not sent to another epoch. It ends as `stale`: "
+    "it was not done, and will not be."
+)
 def an_unsent_edit_with_a_base_is_not_sent_to_another_run(driver):
     play = begun(driver)
     play.cut()
@@ -93,7 +111,10 @@ def an_unsent_edit_with_a_base_is_not_sent_to_another_run(driver):
         play.ended(key, refused="stale")
 
 
-@case("A base is of the epoch of the slots: while those of the run before are held, an edit with a base is not sent to this one.")
+@case(
+    "A base is of the epoch of the slots: while those of the run before are held, an edit with a "
+    "base is not sent to this one."
+)
 def a_base_is_of_the_run_of_the_slots(driver):
     play = begun(driver)
     play.cut()
@@ -107,7 +128,10 @@ def a_base_is_of_the_run_of_the_slots(driver):
         raise Failed("an edit is done to a document that it was not made for")
 
 
-@case("An edit that was not sent when the client is closed ends as closed, and not as unknown: it was not done.")
+@case(
+    "An edit that was not sent when the client is closed ends as closed, and not as unknown: it "
+    "was not done."
+)
 def what_was_not_sent_is_closed(driver):
     play = begun(driver)
     play.cut()

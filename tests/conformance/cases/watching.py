@@ -26,7 +26,10 @@ def fails(play, key):
         raise Failed(f"it says {said}, and only watches")
 
 
-@case("Who only watches enters by the address with `/watch` behind the name, and sees others' edits.", **WATCHES)
+@case(
+    "Who only watches enters by the address with `/watch` behind the name, and sees others' edits.",
+    **WATCHES,
+)
 def who_only_watches_sees_edits(driver):
     play = watching(driver)
     play.relay.edit(push("bread"))
@@ -47,7 +50,10 @@ def an_edit_of_who_only_watches_is_not_sent(driver):
     play.holds(CARDS, [[["milk", "tea"]]], 1)
 
 
-@case("So does one that is made while there is no connection. It is not sent on the next one.", **WATCHES)
+@case(
+    "So does one that is made while there is no connection. It is not sent on the next one.",
+    **WATCHES,
+)
 def an_edit_of_who_only_watches_does_not_wait(driver):
     play = Play(driver, Relay(BOARD), CARDS, readOnly=True)
     fails(play, play.edit(push("salt")))

@@ -36,7 +36,11 @@ def comes_back(play):
     return [*back(play), *play.talk()]
 
 
-@case("A will is asked for by its patch, without a base, and ends when it is answered. It changes nothing that is held.", **LEAVES)
+@case(
+    "A will is asked for by its patch, without a base, and ends when it is answered. It changes "
+    "nothing that is held.",
+    **LEAVES,
+)
 def a_will_is_left(driver):
     play = begun(driver)
     key = play.will(LEFT)
@@ -61,7 +65,11 @@ def a_will_is_left_on_each_connection(driver):
     play.holds_present(CARDS)
 
 
-@case("A later will replaces the one before, and an empty one withdraws it, also on the connections to come.", **LEAVES)
+@case(
+    "A later will replaces the one before, and an empty one withdraws it, also on the connections "
+    "to come.",
+    **LEAVES,
+)
 def the_newest_will_is_left_again(driver):
     play = begun(driver)
     left(play, LEFT)
@@ -75,7 +83,10 @@ def the_newest_will_is_left_again(driver):
     stands(play)
 
 
-@case("A will that is refused is refused alone: the one before stays, also on the next connection.", **LEAVES)
+@case(
+    "A will that is refused is refused alone: the one before stays, also on the next connection.",
+    **LEAVES,
+)
 def a_refused_will_leaves_the_one_before(driver):
     play = begun(driver)
     left(play, LEFT)
@@ -88,7 +99,11 @@ def a_refused_will_leaves_the_one_before(driver):
     stands(play, LEFT)
 
 
-@case("A will whose answer was lost with its connection is left on the next one, and ends with the answer there.", **LEAVES)
+@case(
+    "A will whose answer was lost with its connection is left on the next one, and ends with the "
+    "answer there.",
+    **LEAVES,
+)
 def a_will_without_an_answer_is_left_again(driver):
     play = begun(driver)
     key = play.will(LEFT)
@@ -100,7 +115,11 @@ def a_will_without_an_answer_is_left_again(driver):
     play.ended(key, willing=True)
 
 
-@case("A will that is asked for while there is no connection is left on the next one, and an edit behind it is done behind it.", **LEAVES)
+@case(
+    "A will that is asked for while there is no connection is left on the next one, and an edit "
+    "behind it is done behind it.",
+    **LEAVES,
+)
 def a_will_waits_for_the_connection(driver):
     play = begun(driver)
     play.cut()
@@ -129,7 +148,10 @@ def an_older_relay_knows_no_wills(driver):
     play.holds_present(CARDS)
 
 
-@case("Who only watches leaves no will: it fails as `read-only`, and is not sent.", needs="wills read-only")
+@case(
+    "Who only watches leaves no will: it fails as `read-only`, and is not sent.",
+    needs="wills read-only",
+)
 def who_only_watches_leaves_no_will(driver):
     play = Play(driver, Relay(BOARD), CARDS, readOnly=True)
     play.accept()

@@ -5,7 +5,8 @@ import { pathToFileURL } from "node:url";
 
 const root = new URL("../../../", import.meta.url);
 const { JAVASCRIPT: file } = process.env;
-const { connect, presence } = await import(file ? pathToFileURL(file) : new URL("clients/javascript/relay.mjs", root));
+const client = file ? pathToFileURL(file) : new URL("clients/javascript/relay.mjs", root);
+const { connect, presence } = await import(client);
 
 // No time is played, so none may pass: neither before another connection, nor until the client asks
 // whether the relay is there.
@@ -36,7 +37,8 @@ const ends = (key, word, asked) =>
     (value) => tell({ ends: key, [word]: value }),
     ({ name, fault, at, rev, message }) => {
       if (name === "Refused") tell({ ends: key, refused: fault, at, rev });
-      else if (name === "Unknown" || name === "Closed") tell({ ends: key, [name.toLowerCase()]: true });
+      else if (name === "Unknown") tell({ ends: key, unknown: true });
+      else if (name === "Closed") tell({ ends: key, closed: true });
       else tell({ ends: key, invalid: message });
     },
   );
@@ -56,7 +58,8 @@ const does = {
   edit: ({ key, patch, ...options }) => ends(key, "done", board.edit(patch, options)),
   endRoom: ({ key }) => ends(key, "done", board.end()),
   will: ({ key, patch }) => ends(key, "willing", board.will(patch).then(() => true)),
-  present: ({ key, path, entry }) => ends(key, "here", presence(board, path, entry).ready.then(() => true)),
+  present: ({ key, path, entry }) =>
+    ends(key, "here", presence(board, path, entry).ready.then(() => true)),
   watch: ({ key, view }) => ends(key, "shown", board.watch(view)),
   look: () => {
     const { view, confirmed: slots, rev, epoch, slots: shown } = board;

@@ -3,7 +3,8 @@
 import asyncio, json, os, sys
 from contextlib import asynccontextmanager
 
-sys.path.insert(0, os.environ.get("PYTHON_CLIENT", f"{os.path.dirname(os.path.abspath(__file__))}/../../../clients/python"))
+HERE = os.path.dirname(os.path.abspath(__file__))
+sys.path.insert(0, os.environ.get("PYTHON_CLIENT", f"{HERE}/../../../clients/python"))
 import relay_client
 
 HOUR = 3600
@@ -104,7 +105,15 @@ class Driver:
 
     async def look(self):
         board = self.board
-        tell(held={"view": board.view, "slots": board.confirmed, "rev": board.rev, "epoch": board.epoch, "shown": board.slots})
+        tell(
+            held={
+                "view": board.view,
+                "slots": board.confirmed,
+                "rev": board.rev,
+                "epoch": board.epoch,
+                "shown": board.slots,
+            }
+        )
 
     async def end(self):
         await self.board.close()
