@@ -2,7 +2,9 @@
 // is typed. The line `drop` drops the connection on purpose: the client comes back, and is told
 // what it missed.
 //
-//     node --experimental-websocket examples/board.js PORT [ROOM]        (without the option from node 22 on)
+//     node --experimental-websocket examples/board.js PORT [ROOM]
+//
+// From node 22 on it needs no option.
 const { createInterface } = require("node:readline");
 const { connect } = require("../clients/javascript/relay.js");
 
@@ -20,12 +22,14 @@ const board = connect(`ws://127.0.0.1:${port}/rooms/${room}`, {
   view: ["/todo"],
   begin: { todo: [], doing: [], done: [], away: [] },
   WebSocket: Droppable,
-  onChange: ({ slots, rev, patch }) => console.log(rev, patch ? "patch:" : "snapshot:", ...shown(slots[0][0])),
+  onChange: ({ slots, rev, patch }) =>
+    console.log(rev, patch ? "patch:" : "snapshot:", ...shown(slots[0][0])),
   onState: (state) => console.log(state),
 });
 
 const shown = (cards) => (Array.isArray(cards) ? cards : ["no list yet"]);
-const add = (value) => board.edit([{ op: "add", path: "/todo/-", value }]).catch((error) => console.log(error.message));
+const add = (value) =>
+  board.edit([{ op: "add", path: "/todo/-", value }]).catch((error) => console.log(error.message));
 
 createInterface({ input: process.stdin })
   .on("line", (line) => (line === "drop" ? socket.close() : add(line)))

@@ -16,7 +16,8 @@ EMPTY = {"todo": [], "doing": [], "done": [], "away": [], "here": {}}
 
 def show(change):
     """What is typed shows at once, and is `saving` until the relay has shown it."""
-    print(change.rev, "saving:" if change.pending else "saved:", ", ".join(map(str, cards(change.slots))), flush=True)
+    word, shown = "saving:" if change.pending else "saved:", map(str, cards(change.slots))
+    print(change.rev, word, ", ".join(shown), flush=True)
 
 
 def cards(slots):
@@ -38,14 +39,17 @@ async def undo(board):
 
 
 async def main(port, room="board"):
-    url, told = f"ws://127.0.0.1:{port}/rooms/{room}", {"on_change": show, "on_taken_back": taken_back}
+    url = f"ws://127.0.0.1:{port}/rooms/{room}"
+    told = {"on_change": show, "on_taken_back": taken_back}
     async with relay_client.connect(url, view=["/todo"], begin=EMPTY, **told) as board:
         newest = None
         while line := await asyncio.to_thread(sys.stdin.readline):
             if line.strip() == "undo":
                 await undo(board)
             else:
-                newest = board.edit([{"op": "add", "path": "/todo/-", "value": line.strip()}], optimistic=True)
+                newest = board.edit(
+                    [{"op": "add", "path": "/todo/-", "value": line.strip()}], optimistic=True
+                )
         if newest:
             await asyncio.wait([newest])  # answers come in order, so this is the last one
 

@@ -31,12 +31,16 @@ class Cards {
   /** The element of a value; of equal ones, the last. */
   find(value) {
     const wanted = JSON.stringify(value);
-    return [...this.#shown.values()].filter((element) => JSON.stringify(this.#values.get(element)) === wanted).at(-1);
+    return [...this.#shown.values()]
+      .filter((element) => JSON.stringify(this.#values.get(element)) === wanted)
+      .at(-1);
   }
 
   /** Shows lists of values. */
   show(lists) {
-    const before = new Map([...this.#shown.values()].map((element) => [element, element.getBoundingClientRect()]));
+    const before = new Map(
+      [...this.#shown.values()].map((element) => [element, element.getBoundingClientRect()]),
+    );
     const kept = this.#shown;
     this.#shown = new Map();
     const counts = new Map();
@@ -72,6 +76,12 @@ class Cards {
 function fly(element, { left, top }) {
   const now = element.getBoundingClientRect();
   const [x, y] = [left - now.left, top - now.top];
-  if ((x === 0 && y === 0) || !element.isConnected || matchMedia("(prefers-reduced-motion: reduce)").matches) return;
+  if (
+    (x === 0 && y === 0) ||
+    !element.isConnected ||
+    matchMedia("(prefers-reduced-motion: reduce)").matches
+  ) {
+    return;
+  }
   element.animate([{ transform: `translate(${x}px, ${y}px)` }, { transform: "none" }], FLIGHT);
 }

@@ -7,11 +7,19 @@ const FAR = 5; // pixels, from where on a press is a drag
 /** @param dropped is told the element, its list and its place there */
 function draggable(element, lists, dropped) {
   element.addEventListener("pointerdown", (down) => {
-    const grips = down.pointerType === "mouse" ? !down.target.closest("button, input") : down.target.closest(".grip");
+    const grips =
+      down.pointerType === "mouse"
+        ? !down.target.closest("button, input")
+        : down.target.closest(".grip");
     if (down.button !== 0 || !grips) return;
     let drag = null;
     const move = (event) => {
-      if (drag === null && Math.hypot(event.clientX - down.clientX, event.clientY - down.clientY) < FAR) return;
+      if (
+        drag === null &&
+        Math.hypot(event.clientX - down.clientX, event.clientY - down.clientY) < FAR
+      ) {
+        return;
+      }
       drag ??= lift(element, down);
       follow(drag, lists, event);
     };
@@ -47,7 +55,9 @@ function follow({ element, gap, dx, dy }, lists, { clientX, clientY }) {
   if (list === undefined) return;
   const others = [...list.children].filter((item) => item !== element && item !== gap);
   const next = others.find((item) => clientY < middle(item));
-  if (gap.parentElement !== list || gap.nextElementSibling !== (next ?? null)) list.insertBefore(gap, next ?? null);
+  if (gap.parentElement !== list || gap.nextElementSibling !== (next ?? null)) {
+    list.insertBefore(gap, next ?? null);
+  }
 }
 
 function settle({ element, gap }, lists, dropped) {

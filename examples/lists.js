@@ -10,6 +10,7 @@ const LISTS = [
   { name: "Done", path: "/done" },
 ];
 const AWAY = "/away";
+const PATHS = [...LISTS.map(({ path }) => path), AWAY];
 const HERE = "/here";
 
 const { url, name } = visit("board");
@@ -21,7 +22,7 @@ let written = null; // the element of the card in which somebody types
 
 const board = relay.connect(url, {
   view: [...LISTS.map(({ path }) => path), { size: AWAY }, HERE],
-  begin: { ...Object.fromEntries([...LISTS.map(({ path }) => path), AWAY].map((path) => [path.slice(1), []])), here: {} },
+  begin: { ...Object.fromEntries(PATHS.map((path) => [path.slice(1), []])), here: {} },
   onChange: draw,
   onState: tell,
   onTakenBack: ({ patch, cause }) => takeBack(patch, cause),
@@ -35,7 +36,9 @@ function draw({ slots, rev }) {
   const all = LISTS.map((_, k) => list(slots[k][0]));
   // A board in which somebody types is drawn when that is done.
   if (written === null) cards.show(all);
-  all.forEach(({ length }, k) => (lists[k].parentElement.querySelector(".count").textContent = length));
+  all.forEach(({ length }, k) => {
+    lists[k].parentElement.querySelector(".count").textContent = length;
+  });
   at("#away").textContent = `${slots[LISTS.length][0] ?? 0} put away`;
   at("#people").replaceChildren(...Object.entries(here.people).map(person));
   document.title = `Board, revision ${rev}`;
@@ -43,7 +46,12 @@ function draw({ slots, rev }) {
 }
 
 function tell(state, cause = null) {
-  const words = { open: board?.pending ? "saving" : "connected", waiting: "connection lost, trying again", connecting: "connecting", closed: "closed" };
+  const words = {
+    open: board?.pending ? "saving" : "connected",
+    waiting: "connection lost, trying again",
+    connecting: "connecting",
+    closed: "closed",
+  };
   at("#state").textContent = cause?.reason ? `${cause.message}; trying again` : words[state];
   at("#state").dataset.state = state;
   at("#undo").disabled = !board?.undoable;
@@ -55,7 +63,10 @@ function person([id, { name }]) {
   shown.textContent = text(name).slice(0, 2);
   shown.title = id === here.id ? `${text(name)} (you)` : text(name);
   shown.classList.toggle("me", id === here.id);
-  shown.style.setProperty("--hue", [...text(name)].reduce((sum, sign) => (sum * 31 + sign.codePointAt(0)) % 360, 7));
+  shown.style.setProperty(
+    "--hue",
+    [...text(name)].reduce((sum, sign) => (sum * 31 + sign.codePointAt(0)) % 360, 7),
+  );
   return shown;
 }
 
@@ -76,10 +87,13 @@ function change({ list, place, value }, act) {
 
 function add(path, value) {
   const there = board.at(path);
-  if (Array.isArray(there.value)) board.edit([{ op: "add", path: `${path}/-`, value }], { optimistic: true });
-  // Nothing is there yet, or something that is no list: a list takes its place, if nobody is
-  // faster.
-  else there.update((seen) => [...list(seen), value]).catch((cause) => say(failure(cause)));
+  if (Array.isArray(there.value)) {
+    board.edit([{ op: "add", path: `${path}/-`, value }], { optimistic: true });
+  } else {
+    // Nothing is there yet, or something that is no list: a list takes its place, if nobody is
+    // faster.
+    there.update((seen) => [...list(seen), value]).catch((cause) => say(failure(cause)));
+  }
 }
 
 function move(seen, list, place) {
@@ -143,7 +157,9 @@ function write(element) {
     written = null;
     input.onblur = null;
     input.replaceWith(shown);
-    if (value !== "" && value !== text(seen.value)) change(seen, (path) => ({ op: "replace", path, value }));
+    if (value !== "" && value !== text(seen.value)) {
+      change(seen, (path) => ({ op: "replace", path, value }));
+    }
     cards.show(LISTS.map((_, k) => list(board.slots[k][0])));
   };
   written = element;
@@ -151,10 +167,12 @@ function write(element) {
   input.focus();
 }
 
+const ARROWS = { ArrowLeft: [-1, 0], ArrowRight: [1, 0], ArrowUp: [0, -1], ArrowDown: [0, 1] };
+
 // Keys on a card: arrows go to another one, and with Alt take it along.
 function key(event, element) {
   const { list, place } = cards.seen(element);
-  const [aside, down] = { ArrowLeft: [-1, 0], ArrowRight: [1, 0], ArrowUp: [0, -1], ArrowDown: [0, 1] }[event.key] ?? [];
+  const [aside, down] = ARROWS[event.key] ?? [];
   if (event.key === "Enter") write(element);
   else if (event.key === "Delete") putAway(cards.seen(element));
   else if (aside === undefined || lists[list + aside] === undefined) return;
@@ -176,7 +194,13 @@ function choose(list, place) {
 at("#undo").onclick = () => step("undo");
 at("#redo").onclick = () => step("redo");
 addEventListener("keydown", (event) => {
-  if (event.key.toLowerCase() !== "z" || !(event.ctrlKey || event.metaKey) || event.target.tagName === "INPUT") return;
+  if (
+    event.key.toLowerCase() !== "z" ||
+    !(event.ctrlKey || event.metaKey) ||
+    event.target.tagName === "INPUT"
+  ) {
+    return;
+  }
   event.preventDefault();
   step(event.shiftKey ? "redo" : "undo");
 });

@@ -2,7 +2,8 @@
 // shape, and what is said of a refused edit.
 "use strict";
 
-const NAMES = ["Ash", "Birch", "Cedar", "Elm", "Fir", "Hazel", "Juniper", "Linden", "Maple", "Oak", "Pine", "Rowan", "Willow", "Yew"];
+const TREES = "Ash Birch Cedar Elm Fir Hazel Juniper Linden Maple Oak Pine Rowan Willow Yew";
+const NAMES = TREES.split(" ");
 
 const FAULTS = {
   "test-failed": "somebody changed that first",
@@ -22,8 +23,10 @@ const FAULTS = {
  */
 function visit(room) {
   const asked = new URLSearchParams(location.search);
-  const url = asked.get("url") ?? `ws://127.0.0.1:${asked.get("port") ?? 8080}/rooms/${asked.get("room") ?? room}`;
-  const name = asked.get("name") ?? (sessionStorage.name ??= NAMES[Math.floor(Math.random() * NAMES.length)]);
+  const [port, own] = [asked.get("port") ?? 8080, asked.get("room") ?? room];
+  const url = asked.get("url") ?? `ws://127.0.0.1:${port}/rooms/${own}`;
+  const name =
+    asked.get("name") ?? (sessionStorage.name ??= NAMES[Math.floor(Math.random() * NAMES.length)]);
   return { url, name };
 }
 
@@ -45,7 +48,9 @@ function object(value) {
 /** What became of an edit that failed, in words. */
 function failure(cause) {
   if (cause instanceof relay.Refused) return `Not done: ${FAULTS[cause.fault] ?? cause.fault}.`;
-  return cause instanceof relay.Unknown ? "Perhaps not done: the connection was lost before the answer." : `Not done: ${cause.message}.`;
+  return cause instanceof relay.Unknown
+    ? "Perhaps not done: the connection was lost before the answer."
+    : `Not done: ${cause.message}.`;
 }
 
 let silence;

@@ -7,16 +7,18 @@
 
 class Session : public Peer, public std::enable_shared_from_this<Session> {
 public:
-    Session(tcp::socket socket, Rooms &rooms, std::uint64_t number) : link_(std::move(socket)), rooms_(rooms), number_(number) {}
+    Session(tcp::socket socket, Rooms &rooms, std::uint64_t number)
+        : link_(std::move(socket)), rooms_(rooms), number_(number) {}
     ~Session() {
         if (room_) room_->leave(*this);
     }
 
     void start() {
         auto head = std::make_shared<Head>();
-        http::async_read(link_.next_layer(), input_, *head, [self = shared_from_this(), head](error_code error, std::size_t) {
+        auto came = [self = shared_from_this(), head](error_code error, std::size_t) {
             if (!error) self->accept(head);
-        });
+        };
+        http::async_read(link_.next_layer(), input_, *head, std::move(came));
     }
 
     void send(Text text) override {
@@ -47,11 +49,12 @@ private:
     }
 
     void write() {
-        link_.async_write(asio::buffer(*waiting_.front()), [self = shared_from_this()](error_code error, std::size_t) {
+        auto went = [self = shared_from_this()](error_code error, std::size_t) {
             if (error) return;
             self->waiting_.pop_front();
             if (!self->waiting_.empty()) self->write();
-        });
+        };
+        link_.async_write(asio::buffer(*waiting_.front()), std::move(went));
     }
 
     websocket::stream<tcp::socket> link_;

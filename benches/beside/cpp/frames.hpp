@@ -24,7 +24,8 @@ struct Heard {
     std::size_t size; // of the whole frame
 };
 
-// The frame that these bytes begin with, or none where it is not all there. A client's frames are masked.
+// The frame that these bytes begin with, or none where it is not all there. A client's frames are
+// masked.
 inline std::optional<Heard> first_frame(std::string_view bytes) {
     const auto byte = [&](std::size_t i) { return static_cast<unsigned char>(bytes[i]); };
     if (bytes.size() < 2) return {};

@@ -8,16 +8,18 @@ constexpr std::size_t READ_MOST = 65536;
 
 class Session : public Peer, public std::enable_shared_from_this<Session> {
 public:
-    Session(tcp::socket socket, Rooms &rooms, std::uint64_t number) : socket_(std::move(socket)), rooms_(rooms), number_(number) {}
+    Session(tcp::socket socket, Rooms &rooms, std::uint64_t number)
+        : socket_(std::move(socket)), rooms_(rooms), number_(number) {}
     ~Session() {
         if (room_) room_->leave(*this);
     }
 
     void start() {
         auto head = std::make_shared<Head>();
-        http::async_read(socket_, input_, *head, [self = shared_from_this(), head](error_code error, std::size_t) {
+        auto came = [self = shared_from_this(), head](error_code error, std::size_t) {
             if (!error) self->accept(head);
-        });
+        };
+        http::async_read(socket_, input_, *head, std::move(came));
     }
 
     void send(Text text) override { send(Opcode::text, *text); }
@@ -29,16 +31,18 @@ private:
         const bool is_first = waiting_.empty() && sending_.empty();
         waiting_ += frame_head(opcode, payload.size());
         waiting_ += payload;
-        if (is_first) asio::post(socket_.get_executor(), [self = shared_from_this()] { self->write(); });
+        if (!is_first) return;
+        asio::post(socket_.get_executor(), [self = shared_from_this()] { self->write(); });
     }
 
     void write() {
         sending_.swap(waiting_);
-        asio::async_write(socket_, asio::buffer(sending_), [self = shared_from_this()](error_code error, std::size_t) {
+        auto went = [self = shared_from_this()](error_code error, std::size_t) {
             if (error) return;
             self->sending_.clear();
             if (!self->waiting_.empty()) self->write();
-        });
+        };
+        asio::async_write(socket_, asio::buffer(sending_), std::move(went));
     }
 
     void accept(std::shared_ptr<Head> head) {
@@ -52,16 +56,20 @@ private:
     }
 
     void read() {
-        socket_.async_read_some(input_.prepare(READ_MOST), [self = shared_from_this()](error_code error, std::size_t size) {
+        auto came = [self = shared_from_this()](error_code error, std::size_t size) {
             if (error) return;
             self->input_.commit(size);
             if (self->hear_frames()) self->read();
-        });
+        };
+        socket_.async_read_some(input_.prepare(READ_MOST), std::move(came));
     }
 
     // Whether to go on reading.
     bool hear_frames() {
-        while (auto frame = first_frame({static_cast<const char *>(input_.data().data()), input_.size()})) {
+        const auto held = [this] {
+            return std::string_view(static_cast<const char *>(input_.data().data()), input_.size());
+        };
+        while (auto frame = first_frame(held())) {
             input_.consume(frame->size);
             switch (frame->opcode) {
             case Opcode::more:

@@ -1,12 +1,15 @@
-// What both servers in C++ do with a request: rooms, edits by JSON Patch, and views of values, by nlohmann's JSON.
+// What both servers in C++ do with a request: rooms, edits by JSON Patch, and views of values, by
+// nlohmann's JSON.
 //
-// A patch is whole or not at all, since it is applied to a copy of the document. It is told as one text, which all who watch the same
-// view share: the operations as they came where they stay within what a slot shows, and else what the slot shows now.
+// A patch is whole or not at all, since it is applied to a copy of the document. It is told as one
+// text, which all who watch the same view share: the operations as they came where they stay within
+// what a slot shows, and else what the slot shows now.
 //
-// Left out, of docs/PROTOCOL.md: `base`, `unwatch` and `resume`, so no history; slots that show a size; each limit (of texts, documents,
-// views, rooms, sessions, and of what waits for a watcher who does not read); of the words of refusals all but `test-failed`, `not-json`
-// and `shape`; the refusal of numbers that are not whole; and what nlohmann's `patch` takes that RFC 6902 refuses, as an `add` into null
-// or a text.
+// Left out, of docs/PROTOCOL.md: `base`, `unwatch` and `resume`, so no history; slots that show a
+// size; each limit (of texts, documents, views, rooms, sessions, and of what waits for a watcher
+// who does not read); of the words of refusals all but `test-failed`, `not-json` and `shape`; the
+// refusal of numbers that are not whole; and what nlohmann's `patch` takes that RFC 6902 refuses,
+// as an `add` into null or a text.
 #pragma once
 
 #include <cstdint>
@@ -34,7 +37,9 @@ public:
     virtual void send(Text text) = 0;
 };
 
-inline void say(Peer &peer, const json &message) { peer.send(std::make_shared<const std::string>(message.dump())); }
+inline void say(Peer &peer, const json &message) {
+    peer.send(std::make_shared<const std::string>(message.dump()));
+}
 
 // The slot of a pointer: `[value]`, or `[]` where nothing stands there.
 inline json shown(const json &document, const std::string &pointer) {
@@ -45,7 +50,8 @@ inline json shown(const json &document, const std::string &pointer) {
     }
 }
 
-// Pointers have one spelling, so one leads into another where its text goes on from the other's, by a slash.
+// Pointers have one spelling, so one leads into another where its text goes on from the other's, by
+// a slash.
 inline bool leads_into(std::string_view inner, std::string_view outer) {
     return inner.size() > outer.size() && inner.starts_with(outer) && inner[outer.size()] == '/';
 }
@@ -55,11 +61,13 @@ inline std::string_view moved(std::string_view path) {
     const auto slash = path.rfind('/');
     if (slash == path.npos) return path;
     const auto token = path.substr(slash + 1);
-    const bool is_place = token == "-" || (!token.empty() && token.find_first_not_of("0123456789") == token.npos);
+    const bool is_digits = token.find_first_not_of("0123456789") == token.npos;
+    const bool is_place = token == "-" || (!token.empty() && is_digits);
     return is_place ? path.substr(0, slash) : path;
 }
 
-// What a change means to a slot: nothing, a change within what the slot shows, or that the slot is to be told anew.
+// What a change means to a slot: nothing, a change within what the slot shows, or that the slot is
+// to be told anew.
 enum class Touch { apart, inside, anew };
 
 inline Touch touch(std::string_view pointer, std::string_view path, std::string_view op) {
@@ -74,26 +82,33 @@ inline Touch touch(const std::string &pointer, const json &change) {
     const auto target = touch(pointer, change.at("path").get_ref<const std::string &>(), op);
     if (op != "move" && op != "copy") return target;
     const auto &from = change.at("from").get_ref<const std::string &>();
-    if (op == "copy") return target == Touch::inside && !leads_into(from, pointer) ? Touch::anew : target;
+    if (op == "copy") {
+        return target == Touch::inside && !leads_into(from, pointer) ? Touch::anew : target;
+    }
     return touch(pointer, from, op) == target ? target : Touch::anew;
 }
 
 inline json local(std::size_t slot, const std::string &pointer, const json &change) {
     json made = change;
     for (const auto *name : {"from", "path"}) {
-        if (made.contains(name)) made[name] = "/" + std::to_string(slot) + "/0" + made[name].get<std::string>().substr(pointer.size());
+        if (!made.contains(name)) continue;
+        const auto rest = made[name].get<std::string>().substr(pointer.size());
+        made[name] = "/" + std::to_string(slot) + "/0" + rest;
     }
     return made;
 }
 
 // The operations that bring a slot up to date.
-inline json told(const json &document, std::size_t slot, const std::string &pointer, const json &patch) {
+inline json told(const json &document, std::size_t slot, const std::string &pointer,
+                 const json &patch) {
     json within = json::array();
     for (const auto &change : patch) {
         if (change.at("op") == "test") continue;
         const auto touched = touch(pointer, change);
         if (touched == Touch::anew) {
-            return json::array({{{"op", "replace"}, {"path", "/" + std::to_string(slot)}, {"value", shown(document, pointer)}}});
+            return json::array({{{"op", "replace"},
+                                 {"path", "/" + std::to_string(slot)},
+                                 {"value", shown(document, pointer)}}});
         }
         if (touched == Touch::inside) within.push_back(local(slot, pointer, change));
     }
@@ -105,7 +120,8 @@ public:
     std::uint64_t rev() const { return rev_; }
 
     void edit(const json &patch) {
-        document_ = document_.patch(patch); // a copy, which takes the document's place where no operation was refused
+        // A copy, which takes the document's place where no operation was refused.
+        document_ = document_.patch(patch);
         rev_ += 1;
     }
 
@@ -114,10 +130,13 @@ public:
         for (const auto &[view, watchers] : watchers_) {
             json operations = json::array();
             for (std::size_t slot = 0; slot < view.size(); slot++) {
-                for (auto &operation : told(document_, slot, view[slot], patch)) operations.push_back(std::move(operation));
+                for (auto &operation : told(document_, slot, view[slot], patch)) {
+                    operations.push_back(std::move(operation));
+                }
             }
             if (operations.empty()) continue;
-            const json message = {{"kind", "patch"}, {"patch", std::move(operations)}, {"rev", rev_}};
+            const json message = {
+                {"kind", "patch"}, {"patch", std::move(operations)}, {"rev", rev_}};
             const auto text = std::make_shared<const std::string>(message.dump());
             for (auto *watcher : watchers) watcher->send(text);
         }

@@ -1,4 +1,5 @@
-// What both servers in C++ begin with: one thread, which accepts connections, and a session of theirs for each.
+// What both servers in C++ begin with: one thread, which accepts connections, and a session of
+// theirs for each.
 #pragma once
 
 #include <cstdint>
@@ -48,11 +49,13 @@ private:
     std::uint64_t sessions_ = 0;
 };
 
-// `PROGRAM serve [--port PORT]` listens on 127.0.0.1, on a free port if none is named, and prints `listening PORT`.
+// `PROGRAM serve [--port PORT]` listens on 127.0.0.1, on a free port if none is named, and prints
+// `listening PORT`.
 template <class Session> int serve(int argc, char **argv) {
     std::uint16_t port = 0;
     for (int i = 1; i + 1 < argc; i++) {
-        if (argv[i] == std::string_view("--port")) port = static_cast<std::uint16_t>(std::stoi(argv[i + 1]));
+        if (argv[i] != std::string_view("--port")) continue;
+        port = static_cast<std::uint16_t>(std::stoi(argv[i + 1]));
     }
     Rooms rooms; // outlives the sessions, which the context holds
     asio::io_context context(1);

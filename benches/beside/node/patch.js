@@ -106,7 +106,10 @@ function same(a, b) {
   if (a === null || b === null || typeof a !== "object" || typeof b !== "object") return false;
   if (Array.isArray(a) !== Array.isArray(b)) return false;
   const keys = Object.keys(a);
-  return keys.length === Object.keys(b).length && keys.every((key) => Object.hasOwn(b, key) && same(a[key], b[key]));
+  return (
+    keys.length === Object.keys(b).length &&
+    keys.every((key) => Object.hasOwn(b, key) && same(a[key], b[key]))
+  );
 }
 
 function given(op) {
@@ -135,7 +138,9 @@ const OPERATIONS = new Map(
 );
 
 function carryOut(holder, op, undo) {
-  if (op === null || typeof op !== "object" || typeof op.op !== "string") throw new Refused("shape");
+  if (op === null || typeof op !== "object" || typeof op.op !== "string") {
+    throw new Refused("shape");
+  }
   if (!OPERATIONS.has(op.op)) throw new Refused("unknown-op");
   OPERATIONS.get(op.op)(holder, op, undo);
 }

@@ -9,17 +9,37 @@ const { apply, held } = require("./patch.js");
 
 const EXAMPLES = [
   ["A.1", { foo: "bar" }, [{ op: "add", path: "/baz", value: "qux" }], { baz: "qux", foo: "bar" }],
-  ["A.2", { foo: ["bar", "baz"] }, [{ op: "add", path: "/foo/1", value: "qux" }], { foo: ["bar", "qux", "baz"] }],
+  [
+    "A.2",
+    { foo: ["bar", "baz"] },
+    [{ op: "add", path: "/foo/1", value: "qux" }],
+    { foo: ["bar", "qux", "baz"] },
+  ],
   ["A.3", { baz: "qux", foo: "bar" }, [{ op: "remove", path: "/baz" }], { foo: "bar" }],
-  ["A.4", { foo: ["bar", "qux", "baz"] }, [{ op: "remove", path: "/foo/1" }], { foo: ["bar", "baz"] }],
-  ["A.5", { baz: "qux", foo: "bar" }, [{ op: "replace", path: "/baz", value: "boo" }], { baz: "boo", foo: "bar" }],
+  [
+    "A.4",
+    { foo: ["bar", "qux", "baz"] },
+    [{ op: "remove", path: "/foo/1" }],
+    { foo: ["bar", "baz"] },
+  ],
+  [
+    "A.5",
+    { baz: "qux", foo: "bar" },
+    [{ op: "replace", path: "/baz", value: "boo" }],
+    { baz: "boo", foo: "bar" },
+  ],
   [
     "A.6",
     { foo: { bar: "baz", waldo: "fred" }, qux: { corge: "grault" } },
     [{ op: "move", from: "/foo/waldo", path: "/qux/thud" }],
     { foo: { bar: "baz" }, qux: { corge: "grault", thud: "fred" } },
   ],
-  ["A.7", { foo: ["all", "grass", "cows", "eat"] }, [{ op: "move", from: "/foo/1", path: "/foo/3" }], { foo: ["all", "cows", "eat", "grass"] }],
+  [
+    "A.7",
+    { foo: ["all", "grass", "cows", "eat"] },
+    [{ op: "move", from: "/foo/1", path: "/foo/3" }],
+    { foo: ["all", "cows", "eat", "grass"] },
+  ],
   [
     "A.8",
     { baz: "qux", foo: ["a", 2, "c"] },
@@ -30,12 +50,27 @@ const EXAMPLES = [
     { baz: "qux", foo: ["a", 2, "c"] },
   ],
   ["A.9", { baz: "qux" }, [{ op: "test", path: "/baz", value: "bar" }], "test-failed"],
-  ["A.10", { foo: "bar" }, [{ op: "add", path: "/child", value: { grandchild: {} } }], { foo: "bar", child: { grandchild: {} } }],
-  ["A.11", { foo: "bar" }, [{ op: "add", path: "/baz", value: "qux", xyz: 123 }], { foo: "bar", baz: "qux" }],
+  [
+    "A.10",
+    { foo: "bar" },
+    [{ op: "add", path: "/child", value: { grandchild: {} } }],
+    { foo: "bar", child: { grandchild: {} } },
+  ],
+  [
+    "A.11",
+    { foo: "bar" },
+    [{ op: "add", path: "/baz", value: "qux", xyz: 123 }],
+    { foo: "bar", baz: "qux" },
+  ],
   ["A.12", { foo: "bar" }, [{ op: "add", path: "/baz/bat", value: "qux" }], "missing"],
   ["A.14", { "/": 9, "~1": 10 }, [{ op: "test", path: "/~01", value: 10 }], { "/": 9, "~1": 10 }],
   ["A.15", { "/": 9, "~1": 10 }, [{ op: "test", path: "/~01", value: "10" }], "test-failed"],
-  ["A.16", { foo: ["bar"] }, [{ op: "add", path: "/foo/-", value: ["abc", "def"] }], { foo: ["bar", ["abc", "def"]] }],
+  [
+    "A.16",
+    { foo: ["bar"] },
+    [{ op: "add", path: "/foo/-", value: ["abc", "def"] }],
+    { foo: ["bar", ["abc", "def"]] },
+  ],
 ];
 
 for (const [name, document, patch, outcome] of EXAMPLES) {

@@ -2,7 +2,9 @@
 // The relay's protocol (docs/PROTOCOL.md) as a server of Node's `ws` would be written: as far as a
 // load speaks it, to be measured beside.
 //
-//     server.js serve [--port PORT]     listens on 127.0.0.1, on a free port if none is named, and prints `listening PORT`
+//     server.js serve [--port PORT]
+//
+// It listens on 127.0.0.1, on a free port if none is named, and prints `listening PORT`.
 //
 // It has rooms, edits by JSON Patch, whole or not at all, and views of values. A patch is told as
 // one text to all who watch the same view: the operations as they came where they stay within what
@@ -72,7 +74,9 @@ function told(holder, slot, pointer, changes) {
   for (const change of changes) {
     const all = touches(pointer, change);
     if (all.every((one) => one === "apart")) continue;
-    if (!all.every((one) => one === "inside")) return [{ op: "replace", path: `/${slot}`, value: shown(holder, pointer) }];
+    if (!all.every((one) => one === "inside")) {
+      return [{ op: "replace", path: `/${slot}`, value: shown(holder, pointer) }];
+    }
     within.push(local(slot, pointer, change));
   }
   return within;
@@ -92,7 +96,9 @@ class Room {
   tell(patch) {
     const changes = patch.filter(({ op }) => op !== "test");
     for (const { pointers, watchers } of this.#views.values()) {
-      const operations = pointers.flatMap((pointer, slot) => told(this.#holder, slot, pointer, changes));
+      const operations = pointers.flatMap((pointer, slot) =>
+        told(this.#holder, slot, pointer, changes),
+      );
       if (operations.length === 0) continue;
       const text = Buffer.from(JSON.stringify({ kind: "patch", patch: operations, rev: this.rev }));
       for (const watcher of watchers) watcher.send(text, { binary: false });
@@ -107,7 +113,11 @@ class Room {
   }
 
   snapshot(pointers) {
-    return { kind: "snapshot", rev: this.rev, view: pointers.map((pointer) => shown(this.#holder, pointer)) };
+    return {
+      kind: "snapshot",
+      rev: this.rev,
+      view: pointers.map((pointer) => shown(this.#holder, pointer)),
+    };
   }
 
   leave(socket) {
@@ -150,7 +160,9 @@ function hear(room, socket, text) {
   let request = null;
   try {
     request = read(text);
-    if (!Number.isInteger(request?.id) || !Object.hasOwn(REQUESTS, request.do)) throw new Refused("shape");
+    if (!Number.isInteger(request?.id) || !Object.hasOwn(REQUESTS, request.do)) {
+      throw new Refused("shape");
+    }
     REQUESTS[request.do](room, socket, request);
   } catch (fault) {
     if (!(fault instanceof Refused)) throw fault;
