@@ -8,7 +8,8 @@ use Rattle.relay_hub.proofs.Shedding.{shed_stands}
 use Rattle.relay_hub.proofs.Stands.{step_stands}
 use Rattle.relay_hub.proofs.Watchers.{exactly_held, each_held}
 use Rattle.relay_link.specs.Follows.{Point, Rooms, Follows, stays as none, makes, with_events}
-use Rattle.relay_event_loop.specs.Advances.{Links, Advances, stays, turns, adds, removes, visits, sheds, acts, with_turns}
+use Rattle.relay_event_loop.specs.Advances.{Links, Advances, stays, turns, adds, removes, visits}
+use Rattle.relay_event_loop.specs.Advances.{sheds, acts, with_turns}
 use Rattle.relay_event_loop.specs.Rounds.{Rounds}
 use Rattle.relay_event_loop.proofs.Owners.{connected_after}
 
@@ -77,7 +78,8 @@ module _ {S : Type 0} {remaining contents : S → Option (List ℕ)} where
       step
 
 -- and each client that watches holds what is so
-module _ {S : Type 0} {remaining contents : S → Option (List ℕ)} {hub next : State} {old new : Links S}
+module _ {S : Type 0} {remaining contents : S → Option (List ℕ)} {hub next : State}
+    {old new : Links S}
     (advances : Advances remaining contents hub old next new) (b : HubConfig) (E : Log)
     (stands : StandsFor b E hub) where
   pub exact_after : EachHoldsPresent b (with_turns advances E) next
@@ -103,8 +105,8 @@ rounds_of advances = record {
   connected = connected_after advances;
 }
 
-pub no_rounds : {S : Type 0} {remaining contents : S → Option (List ℕ)} {hub : State} {links : Links S}
-    → Rounds remaining contents hub links hub links
+pub no_rounds : {S : Type 0} {remaining contents : S → Option (List ℕ)} {hub : State}
+    {links : Links S} → Rounds remaining contents hub links hub links
 no_rounds {remaining = remaining} {contents = contents} {hub = hub} {links = links} =
     let none : Advances remaining contents hub links hub links = stays (λ key. refl) in
     record {

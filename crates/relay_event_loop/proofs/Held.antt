@@ -1,5 +1,7 @@
 -- What changes of the slab mean for the links of its connections.
-use Rattle.std.proofs.Common.{◌≡◌, ◌≢◌, ℕ, Result, Ok, Err, IfOk, OnErr, List, [], Option, Some, None, refl, sym, ◌∙◌, ap, subst, inl, inr, option_map, arith, ◌<◌, ◌≤◌, length, cond, is_some, get_or}
+use Rattle.std.proofs.Common.{◌≡◌, ◌≢◌, ℕ, Result, Ok, Err, IfOk, OnErr, List, [], Option, Some}
+use Rattle.std.proofs.Common.{None, refl, sym, ◌∙◌, ap, subst, inl, inr, option_map, arith, ◌<◌}
+use Rattle.std.proofs.Common.{◌≤◌, length, cond, is_some, get_or}
 use Rattle.std.proofs.lemmas.Bool.{cases_eq}
 use Rattle.std.proofs.lemmas.List.Sums.{sum_by-set}
 use Rattle.std.specs.declared.alloc.AllocError.{AllocError}
@@ -27,7 +29,8 @@ use Rattle.relay_link.specs.declared.state.State.{State as Link}
 use Rattle.relay_link.specs.declared.state.State.TheVariants.{Head, Replying, Open, Closing, Gone}
 use Rattle.relay_link.specs.declared.visit.Visit.{Visit}
 use Rattle.relay_access.specs.declared.access.Access.{Access}
-use Rattle.relay_event_loop.specs.Advances.{Links, IsNew, links_of, sessions_in, Advances, stays, turns, adds, removes, visits, sheds, acts, IsOfHouse}
+use Rattle.relay_event_loop.specs.Advances.{Links, IsNew, links_of, sessions_in, Advances, stays}
+use Rattle.relay_event_loop.specs.Advances.{turns, adds, removes, visits, sheds, acts, IsOfHouse}
 use Rattle.relay_link.proofs.Sending.{Framed, sending_by, gone_framed, gone_replies}
 use Rattle.relay_event_loop.specs.declared.connection.Connection.{Connection}
 use Rattle.relay_event_loop.specs.declared.ready.TrackedStream.{TrackedStream}
@@ -87,8 +90,8 @@ pub no_more_then : (new mid old : ℕ) → new ≤ mid → mid ≤ old → new �
 no_more_then new mid old after before = omega (arith, after, before)
 
 -- Nothing changed.
-pub none_changed : {S : Type 0} {remaining contents : S → Option (List ℕ)} {hub : State} {links : Links S}
-    → Advances remaining contents hub links hub links
+pub none_changed : {S : Type 0} {remaining contents : S → Option (List ℕ)} {hub : State}
+    {links : Links S} → Advances remaining contents hub links hub links
 none_changed = stays (λ key. refl)
 
 module _ {S : Type 0} (held : Slab (Connection S)) (key : ℕ) (was is : Connection S)
@@ -116,7 +119,8 @@ module _ {S : Type 0} (held : Slab (Connection S)) (key : ℕ) (was is : Connect
     pub unmoved : (hub next : State) → next ≡ hub → is.link ≡ was.link
         → Advances remaining contents hub (links_of held) next (links_of (with_value held key is))
     unmoved hub next same link =
-        subst (λ h. Advances remaining contents hub (links_of held) h (links_of (with_value held key is)))
+        subst (λ h.
+        Advances remaining contents hub (links_of held) h (links_of (with_value held key is)))
         (sym same) (woken hub link)
 
     -- Its link made a turn.
@@ -148,9 +152,9 @@ module _ {S : Type 0} (held : Slab (Connection S)) (key : ℕ) (was is : Connect
         (gone_replies remaining contents hub next events was.link is.link gone)
 
 -- A new connection was added.
-pub added : {S : Type 0} {remaining contents : TrackedStream S → Option (List ℕ)} (held new : Slab (Connection S))
-    (key : ℕ) (connection : Connection S) (hub : State) → get held key ≡ None
-    → Updates held new key (Some connection) → IsNew connection.link
+pub added : {S : Type 0} {remaining contents : TrackedStream S → Option (List ℕ)}
+    (held new : Slab (Connection S)) (key : ℕ) (connection : Connection S) (hub : State)
+    → get held key ≡ None → Updates held new key (Some connection) → IsNew connection.link
     → Advances remaining contents hub (links_of held) hub (links_of new)
 added held new key connection hub vacant updates fresh =
     adds (stays (λ other.
@@ -169,38 +173,42 @@ removed held new key was hub there gone updates =
     (updated_others held new key None updates) (gone_is_none was.link gone)
 
 -- The hub gave memory back.
-pub shed_back : {S : Type 0} {remaining contents : S → Option (List ℕ)} (hub : State) (links : Links S)
-    → Advances remaining contents hub links (shed hub) links
+pub shed_back : {S : Type 0} {remaining contents : S → Option (List ℕ)} (hub : State)
+    (links : Links S) → Advances remaining contents hub links (shed hub) links
 shed_back hub links = sheds (stays (λ key. refl))
 
 -- An event of the house, if it was carried out.
 acted : {S : Type 0} {remaining contents : S → Option (List ℕ)} (hub next : State) (links : Links S)
     (event : Event) (answer : Option Answer) → IsOfHouse event → StepIf hub event answer next
     → Advances remaining contents hub links next links
-acted {remaining = remaining} {contents = contents} hub next links event (Some answer) of_house step =
+acted {remaining = remaining} {contents = contents} hub next links event (Some answer) of_house
+    step =
     acts (stays (λ key. refl)) event answer of_house step
 acted {remaining = remaining} {contents = contents} hub next links event None of_house step =
     subst (λ h. Advances remaining contents hub links h links) (sym step) (stays (λ key. refl))
 
 -- A will was done, or memory was refused.
-pub willed : {S : Type 0} {remaining contents : S → Option (List ℕ)} (hub next : State) (links : Links S)
-    (result : Result (Option ℕ) AllocError) → StepIf hub DoWill (doing_will result) next
-    → Advances remaining contents hub links next links
+pub willed : {S : Type 0} {remaining contents : S → Option (List ℕ)} (hub next : State)
+    (links : Links S) (result : Result (Option ℕ) AllocError)
+    → StepIf hub DoWill (doing_will result) next → Advances remaining contents hub links next links
 willed hub next links result step = acted hub next links DoWill (doing_will result) tt step
 
 -- A room was forgotten, or not.
-pub forgotten : {S : Type 0} {remaining contents : S → Option (List ℕ)} (hub next : State) (links : Links S)
-    (name : List ℕ) (result : Result ℕ ForgetFault)
-    → StepIf hub (Forget name) (forgetting result) next → Advances remaining contents hub links next links
+pub forgotten : {S : Type 0} {remaining contents : S → Option (List ℕ)} (hub next : State)
+    (links : Links S) (name : List ℕ) (result : Result ℕ ForgetFault)
+    → StepIf hub (Forget name) (forgetting result) next
+    → Advances remaining contents hub links next links
 forgotten hub next links name result step =
     acted hub next links (Forget name) (forgetting result) tt step
 
 -- A visit was made, or not.
-pub visited : {S : Type 0} {remaining contents : S → Option (List ℕ)} (hub next : State) (links : Links S)
-    (room : List ℕ) (access : Access) (text : List ℕ) (result : Result Visit AllocError)
+pub visited : {S : Type 0} {remaining contents : S → Option (List ℕ)} (hub next : State)
+    (links : Links S) (room : List ℕ) (access : Access) (text : List ℕ)
+    (result : Result Visit AllocError)
     → IfOk result (λ visit. Visits room access text hub next visit) → OnErr result (next ≡ hub)
     → Advances remaining contents hub links next links
 visited hub next links room access text (Ok visit) made unchanged =
     visits (stays (λ key. refl)) room access text visit made
-visited {remaining = remaining} {contents = contents} hub next links room access text (Err e) made unchanged =
+visited {remaining = remaining} {contents = contents} hub next links room access text (Err e) made
+    unchanged =
     subst (λ h. Advances remaining contents hub links h links) (sym unchanged) (stays (λ key. refl))

@@ -1,23 +1,31 @@
 -- Each open session stays that of exactly one connection.
-use Rattle.std.proofs.Common.{◌≡◌, ◌≢◌, ◌⊎◌, ℕ, zero, suc, ◌==◌, List, [], ◌∷◌, Option, Some, None, refl, sym, ◌∙◌, ap, subst, inl, inr, arith, slice_get, nat_eq, IsSome, if◌then◌else◌, option_and_then}
+use Rattle.std.proofs.Common.{◌≡◌, ◌≢◌, ◌⊎◌, ℕ, zero, suc, ◌==◌, List, [], ◌∷◌, Option, Some, None}
+use Rattle.std.proofs.Common.{refl, sym, ◌∙◌, ap, subst, inl, inr, arith, slice_get, nat_eq, IsSome}
+use Rattle.std.proofs.Common.{if◌then◌else◌, option_and_then}
 use Rattle.std.proofs.lemmas.Bool.Decides.{eqb_tells}
 use Rattle.std.specs.Map.{lookup}
 use Rattle.relay_hub.specs.Session.{Session}
 use Rattle.relay_hub.specs.State.{State, RoomSessions, Home, IsHub, index_of, session_in}
 use Rattle.relay_hub.specs.Step.{Step, AtIndex, InRoom, ClosesIn, ClosesAt, DoesWill}
 use Rattle.relay_hub.specs.declared.event.Answer.{Answer}
-use Rattle.relay_hub.specs.declared.event.Answer.TheVariants.{Opened, NotOpened, Closed, WillDone, NoWill, Forgotten, NotForgotten}
+use Rattle.relay_hub.specs.declared.event.Answer.TheVariants.{Opened, NotOpened, Closed, WillDone}
+use Rattle.relay_hub.specs.declared.event.Answer.TheVariants.{NoWill, Forgotten, NotForgotten}
 use Rattle.relay_hub.specs.declared.event.Event.{Event}
 use Rattle.relay_hub.specs.declared.will.Will.{Will}
-use Rattle.relay_hub.specs.declared.event.Event.TheVariants.{Open, Receive, Draw, Close, DoWill, Forget}
+use Rattle.relay_hub.specs.declared.event.Event.TheVariants.{Open, Receive, Draw, Close, DoWill}
+use Rattle.relay_hub.specs.declared.event.Event.TheVariants.{Forget}
 use Rattle.relay_hub.proofs.Members.{step_is_hub}
 use Rattle.relay_hub.proofs.Cases.{by_number}
 use Rattle.relay_hub.proofs.Shedding.{shed_is_hub}
-use Rattle.relay_link.specs.Follows.{Point, Rooms, Follows, stays as none, makes, IsOwn, session_after}
+use Rattle.relay_link.specs.Follows.{Point, Rooms, Follows, stays as none, makes, IsOwn}
+use Rattle.relay_link.specs.Follows.{session_after}
 use Rattle.relay_link.specs.Stage.{session_of}
 use Rattle.relay_link.specs.declared.state.State.{State as Link}
-use Rattle.relay_link.specs.declared.state.State.TheVariants.{Head, Replying, Open as Opening, Closing, Gone}
-use Rattle.relay_event_loop.specs.Advances.{Links, IsNew, IsOfHouse, Sessions, sessions_in, Advances, stays, turns, adds, removes, visits, sheds, acts}
+use Rattle.relay_link.specs.declared.state.State.TheVariants.{Head, Replying, Open as Opening}
+use Rattle.relay_link.specs.declared.state.State.TheVariants.{Closing, Gone}
+use Rattle.relay_event_loop.specs.Advances.{Links, IsNew, IsOfHouse, Sessions, sessions_in}
+use Rattle.relay_event_loop.specs.Advances.{Advances, stays, turns, adds, removes, visits, sheds}
+use Rattle.relay_event_loop.specs.Advances.{acts}
 use Rattle.relay_event_loop.specs.Rounds.{OneEach, Connected}
 
 -- the same sessions, but for one key's
@@ -340,8 +348,8 @@ one_guest sessions {p = p} {q = q} follows bare gone is each =
     (done.0, guest_leaves q.hub sessions after)
 
 module _ {S : Type 0} {remaining contents : S → Option (List ℕ)} where
-  advance_each : {hub next : State} {old new : Links S} → Advances remaining contents hub old next new
-      → IsHub hub → OneEach hub (sessions_in old)
+  advance_each : {hub next : State} {old new : Links S}
+      → Advances remaining contents hub old next new → IsHub hub → OneEach hub (sessions_in old)
       → IsHub next × OneEach next (sessions_in new)
   advance_each (stays same) is each =
       (is, one_each_same (λ t. refl) (λ k. ap (option_and_then session_of) (same k)) each)

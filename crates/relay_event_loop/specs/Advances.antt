@@ -1,7 +1,8 @@
 -- What a server does to its hub and to its connections' links: turns of links, one after another,
 -- visits, its own events, and giving memory back when it was refused. Between turns links are added
 -- and removed, and none changes.
-use Rattle.std.specs.Prelude.{ℕ, ⊤, ◌≡◌, ◌≢◌, ◌≤◌, List, [], ◌∷◌, Option, Some, None, option_map, option_and_then}
+use Rattle.std.specs.Prelude.{ℕ, ⊤, ◌≡◌, ◌≢◌, ◌≤◌, List, [], ◌∷◌, Option, Some, None, option_map}
+use Rattle.std.specs.Prelude.{option_and_then}
 use Rattle.slab.specs.Slab.{Slab, get}
 use Rattle.relay_hub.specs.Log.{Log, entry}
 use Rattle.relay_hub.specs.Shed.{shed}

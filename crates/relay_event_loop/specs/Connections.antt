@@ -18,7 +18,7 @@ limit_of s = s.max_connections
 abbrev pub made_by : {S R : Type 0} → Server S R → ℕ
 made_by s = s.rounds
 
--- so many after some more, as far as they are counted
+-- the count of rounds after so many more; it stops at 2 ^ 64 - 1
 abbrev pub made_after : {S R : Type 0} → ℕ → Server S R → ℕ
 made_after rounds s = min (2 ^ 64 - 1) (made_by s + rounds)
 

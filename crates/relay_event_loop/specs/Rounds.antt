@@ -5,7 +5,8 @@ use Rattle.relay_hub.specs.Log.{Log}
 use Rattle.relay_hub.specs.Stands.{StandsFor, EachHoldsPresent, EachIsAtNamed}
 use Rattle.relay_hub.specs.State.{State, IsHub, index_of}
 use Rattle.relay_hub.specs.declared.config.HubConfig.{HubConfig}
-use Rattle.relay_event_loop.specs.Advances.{Links, links_of, Sessions, sessions_in, Advances, with_turns}
+use Rattle.relay_event_loop.specs.Advances.{Links, links_of, Sessions, sessions_in, Advances}
+use Rattle.relay_event_loop.specs.Advances.{with_turns}
 use Rattle.relay_event_loop.specs.Ready.{left_of, contents_of}
 use Rattle.relay_event_loop.specs.declared.server.Server.{Server}
 

@@ -52,7 +52,7 @@ impl StreamReadiness {
     }
 
     /// Whether another read turn may read bytes, or the end, without a new event: a turn that has
-    /// output pending reads nothing.
+    /// unsent output reads nothing.
     pub(crate) fn may_go_on(&self) -> bool {
         self.ready().readable && self.is_writable()
     }

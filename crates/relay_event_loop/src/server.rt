@@ -1,7 +1,8 @@
 //! The relay as a server: one thread that serves non-blocking sockets in rounds.
 ghost use Rattle.std.specs.Prelude.{◌≡◌, ◌≤◌, []};
 ghost use Rattle.relay_event_loop.specs.Advances.{KeepsFewer};
-ghost use Rattle.relay_event_loop.specs.Connections.{connections_of, limit_of, hub_of, connection_limit, made_by, made_after};
+ghost use Rattle.relay_event_loop.specs.Connections.{connections_of, limit_of, hub_of};
+ghost use Rattle.relay_event_loop.specs.Connections.{connection_limit, made_by, made_after};
 ghost use Rattle.relay_event_loop.specs.Rounds.{RoundsOf, ConnectedOf};
 
 mod accepting;
@@ -24,7 +25,7 @@ use indexmap::IndexMap;
 use relay_hub::{Hub, HubConfig};
 use relay_link::Entrance;
 use relay_operator::{Readiness, ReadyEvent};
-use relay_schedule::{OutputTotal, Queues, RoomShares, ShareLimits};
+use relay_schedule::{OutputTotal, Queues, ReadAheadByRoom, ReadAheadLimits};
 use relay_tree::Budget;
 use slab::Slab;
 use std::alloc::Global;
@@ -82,7 +83,7 @@ pub struct Server<S: Write + Drop, R> {
     /// The connections that may have a turn.
     queues: Queues,
     /// How far each room is read ahead.
-    rooms: RoomShares,
+    rooms: ReadAheadByRoom,
     /// Which room is forgotten for another one.
     vacancies: RoomVacancies,
     /// What all links hold of output.
@@ -134,7 +135,7 @@ impl<S: Read + Write + OpenStream + Drop, R: Readiness<S>> Server<S, R> {
             accept_ready: true,
             accept_failed: false,
             queues: Queues::new(alloc),
-            rooms: RoomShares::new(alloc, share_limits(config)),
+            rooms: ReadAheadByRoom::new(alloc, read_ahead_limits(config)),
             vacancies: RoomVacancies::new(alloc),
             output: OutputTotal::within(most_output),
             texts_heard: 0,
@@ -171,21 +172,24 @@ impl<S: Read + Write + OpenStream + Drop, R: Readiness<S>> Server<S, R> {
     ///
     /// - accepts up to 8 waiting connections. If [`connection_limit`] are held already, the oldest
     ///   one without a session is ended. A connection that cannot be accepted or held is dropped;
-    /// - reads: each connection that has credit, may have input, and whose room may be read ahead
-    ///   gets a read turn; the one that had its turn last comes last. The turn passes at most one
-    ///   text to the hub, and draws its reply, which is corked. This repeats until nobody reads, or
-    ///   the turns have cost 5 ms, as the hub estimates it ([`relay_hub::Hub::cost`]);
+    /// - reads: each connection that has credit, may have input, has no waiting reply that can be
+    ///   sent first, and whose room may be read ahead gets a read turn; the one that had its turn
+    ///   last comes last. The turn passes at most one text to the hub, and draws one message, which
+    ///   is corked, or none if a large snapshot may be due. This repeats until a pass passes no
+    ///   text to the hub, or the turns have cost 5 ms, as the hub estimates it
+    ///   ([`relay_hub::Hub::cost`]);
     /// - writes: each link with corked output, and then each for which something waits, whose
     ///   stream is writable, gets a write turn, which draws and sends up to 32 messages, each time
     ///   starting with the one that has waited longest. Each of these two passes stops at 256 KiB;
     ///   links that it did not reach come first in the next pass of its kind;
-    /// - reads likewise from connections that owe, from one at least, until the turns of the round
-    ///   have cost 5 ms;
+    /// - reads likewise from connections that owe, from one at least, and from those that have
+    ///   credit by then, until the turns of the round have cost 5 ms;
     /// - does the wills of the sessions that were closed: one at least, and others until the turns
     ///   of the round have cost 5 ms, or the last one's room may not be read ahead. What is left is
     ///   done in the next round, which does not wait. Out of memory leaves a will likewise;
     /// - writes again, if anything was read or done since;
-    /// - forgets a room, if the server does so ([`Server::forget_rooms`]) and no other can begin.
+    /// - forgets the room that has been empty for the longest time, if the server forgets rooms
+    ///   ([`Server::forget_rooms`]) and none is left for a new name.
     ///
     /// A turn takes what it cost from the credit of its connection, and each round of credit gives
     /// the same to all ([`relay_schedule::ReadyQueue`]). A room may be read ahead if none of its
@@ -200,9 +204,14 @@ impl<S: Read + Write + OpenStream + Drop, R: Readiness<S>> Server<S, R> {
     ///
     /// Once the links hold as much output as they may, no snapshot of a document that weighs more
     /// than 4,096 is drawn. A link's buffer never shrinks. So while that much is held, up to 64
-    /// links are ended each second, the largest buffer first: links with an equal share at least
-    /// that have sent everything, or whose stream took nothing for 30 seconds. It stops once half
-    /// of the limit is free.
+    /// links are ended each second, the largest buffer first: links that hold at least the average
+    /// of all links, and that have sent everything, or whose stream took nothing for 30 seconds. It
+    /// stops once half of the limit is free.
+    ///
+    /// Proved of a round: the hub changes by turns, visits, wills, forgetting and
+    /// [`relay_hub::Hub::shed`] alone, and goes on standing for its log (`rounds`); one round is
+    /// counted (`made`); the limit on connections stays (`limit`), and is kept (`within`). Whom a
+    /// round serves, and when, is tested.
     ///
     /// ```
     /// let (wire, script) = (Wire::new(alloc), ReadinessScript::new(alloc));
@@ -279,8 +288,8 @@ impl<S: Read + Write + OpenStream + Drop, R: Readiness<S>> Server<S, R> {
 /// How far a room may be read ahead: by half of what may wait for a session, at least one text. So
 /// no watcher that keeps up is folded by the number of its patches. By their weight it may be,
 /// since a short text can make a heavy change.
-fn share_limits(config: HubConfig) -> ShareLimits {
-    ShareLimits {
+fn read_ahead_limits(config: HubConfig) -> ReadAheadLimits {
+    ReadAheadLimits {
         texts: (config.max_waiting_patches / 2).max(1),
         bytes: match config.waiting_weight {
             Budget::Unbounded => u64::MAX,

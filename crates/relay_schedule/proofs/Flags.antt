@@ -1,8 +1,11 @@
 -- The flags of a queue's keys: a flag that is not set leaves room for one more, and flags that are
 -- added unset change nothing.
-use Rattle.std.proofs.Common.{◌≡◌, ℕ, zero, suc, List, [], ◌∷◌, ◌++◌, Bool, true, false, ◌+◌, ◌<◌, ◌≤◌, length, take, replicate, arith, cond, refl, sym, ◌∙◌, ap, slice_index_or, slice_set, nat_lt}
+use Rattle.std.proofs.Common.{◌≡◌, ℕ, zero, suc, List, [], ◌∷◌, ◌++◌, Bool, true, false, ◌+◌, ◌<◌}
+use Rattle.std.proofs.Common.{◌≤◌, length, take, replicate, arith, cond, refl, sym, ◌∙◌, ap}
+use Rattle.std.proofs.Common.{slice_index_or, slice_set, nat_lt}
 use Rattle.std.specs.List.{count_by}
-use Rattle.std.proofs.lemmas.List.{length-set, length-append, length-replicate, get_or_past, take_all}
+use Rattle.std.proofs.lemmas.List.{length-set, length-append, length-replicate, get_or_past}
+use Rattle.std.proofs.lemmas.List.{take_all}
 use Rattle.std.proofs.lemmas.List.Sums.{sum_by-set, sum_by-append, count_by-le-length}
 use Rattle.std.proofs.lemmas.Bool.Decides.{nat_tests}
 use Rattle.relay_schedule.specs.Queue.{IsQueue, times}

@@ -1,5 +1,7 @@
 -- The lines of those who may be read keep their invariant: no key stands in line twice.
-use Rattle.std.proofs.Common.{◌≡◌, inl, inr, ℕ, List, [], ◌∷◌, ◌++◌, Bool, true, false, ◌&&◌, ◌||◌, ◌==◌, not, ◌+◌, ◌-◌, ◌≤◌, length, drop, arith, cond, refl, subst, nat_lt}
+use Rattle.std.proofs.Common.{◌≡◌, inl, inr, ℕ, List, [], ◌∷◌, ◌++◌, Bool, true, false, ◌&&◌, ◌||◌}
+use Rattle.std.proofs.Common.{◌==◌, not, ◌+◌, ◌-◌, ◌≤◌, length, drop, arith, cond, refl, subst}
+use Rattle.std.proofs.Common.{nat_lt}
 use Rattle.std.proofs.lemmas.List.{length-append}
 use Rattle.std.proofs.lemmas.Bool.Decides.{nat_tests, eqb_tells}
 use Rattle.relay_schedule.specs.Queue.{Keys, times, waits, queued, without_first}

@@ -1,6 +1,7 @@
 -- Each that waits is served once before any is served twice: as many turns as wait serve them in
 -- their order, if each that was served is queued again at once.
-use Rattle.std.proofs.Common.{◌≡◌, ℕ, List, [], ◌∷◌, ◌++◌, true, false, nat_lt, length, refl, ap, ◌∙◌, sym, arith, append_assoc, append-nil, subst}
+use Rattle.std.proofs.Common.{◌≡◌, ℕ, List, [], ◌∷◌, ◌++◌, true, false, nat_lt, length, refl, ap}
+use Rattle.std.proofs.Common.{◌∙◌, sym, arith, append_assoc, append-nil, subst}
 use Rattle.std.proofs.lemmas.Bool.Decides.{nat_tests}
 use Rattle.relay_schedule.specs.Queue.{Keys, IsQueue, times, waits, queued, served}
 use Rattle.relay_schedule.proofs.Times.{times-cons, times_push, times_first}

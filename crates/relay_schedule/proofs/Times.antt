@@ -1,5 +1,6 @@
 -- How often a key stands in a list that gains a key or loses its first.
-use Rattle.std.proofs.Common.{◌≡◌, inl, inr, ℕ, List, [], ◌∷◌, ◌++◌, Bool, ◌==◌, ◌+◌, ◌≤◌, drop, arith, cond, refl, ap, ◌∙◌}
+use Rattle.std.proofs.Common.{◌≡◌, inl, inr, ℕ, List, [], ◌∷◌, ◌++◌, Bool, ◌==◌, ◌+◌, ◌≤◌, drop}
+use Rattle.std.proofs.Common.{arith, cond, refl, ap, ◌∙◌}
 use Rattle.std.proofs.lemmas.List.Sums.{sum_by-cons, sum_by_push}
 use Rattle.std.proofs.lemmas.Bool.Decides.{eqb_tells}
 use Rattle.relay_schedule.specs.Queue.{times}

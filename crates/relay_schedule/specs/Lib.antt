@@ -6,4 +6,4 @@ pub mod Queues
 pub mod Ready
 pub mod Representation
 pub mod Rooms
-pub mod Share
+pub mod ReadAhead

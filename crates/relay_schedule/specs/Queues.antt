@@ -1,8 +1,10 @@
 -- The queues of a server's connections, and what a call makes of them.
 use Rattle.std.specs.Prelude.{ℕ, Bool, ◌&&◌, ◌||◌, not, if◌then◌else◌}
 use Rattle.relay_schedule.specs.Credit.{has_credit}
-use Rattle.relay_schedule.specs.Queue.{Keys, Admits, MayAdmit, no_keys, is_empty, waits, admitting, queued, without_first}
-use Rattle.relay_schedule.specs.Ready.{BothAdmit, LinesMayAdmit, no_lines, are_empty, stands, both_admitting, lined_up}
+use Rattle.relay_schedule.specs.Queue.{Keys, Admits, MayAdmit, no_keys, is_empty, waits, admitting}
+use Rattle.relay_schedule.specs.Queue.{queued, without_first}
+use Rattle.relay_schedule.specs.Ready.{BothAdmit, LinesMayAdmit, no_lines, are_empty, stands}
+use Rattle.relay_schedule.specs.Ready.{both_admitting, lined_up}
 use Rattle.relay_schedule.specs.declared.credit.Credit.{Credit}
 use Rattle.relay_schedule.specs.declared.queues.Output.{Output}
 use Rattle.relay_schedule.specs.declared.queues.Output.TheVariants.{Corked, Waiting}

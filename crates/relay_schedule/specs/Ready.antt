@@ -1,8 +1,10 @@
 -- The connections that may be read, as contracts see them, and what a call makes of them.
-use Rattle.std.specs.Prelude.{◌≡◌, ℕ, ◌+◌, ◌-◌, ◌^◌, ◌≤◌, Bool, ◌||◌, ◌&&◌, ◌==◌, min, if◌then◌else◌, List, length, take, refl}
+use Rattle.std.specs.Prelude.{◌≡◌, ℕ, ◌+◌, ◌-◌, ◌^◌, ◌≤◌, Bool, ◌||◌, ◌&&◌, ◌==◌, min}
+use Rattle.std.specs.Prelude.{if◌then◌else◌, List, length, take, refl}
 use Rattle.std.specs.Coded.{Coded, code_by, coded×, coded_ℕ}
 use Rattle.relay_schedule.specs.Credit.{has_credit}
-use Rattle.relay_schedule.specs.Queue.{Keys, Admits, MayAdmit, keys_code, times, no_keys, is_empty, waits, admitting, queued, without_first}
+use Rattle.relay_schedule.specs.Queue.{Keys, Admits, MayAdmit, keys_code, times, no_keys, is_empty}
+use Rattle.relay_schedule.specs.Queue.{waits, admitting, queued, without_first}
 use Rattle.relay_schedule.specs.declared.credit.Credit.{Credit}
 
 -- the line of those with credit and that of those who owe, the round of credit, and how many of

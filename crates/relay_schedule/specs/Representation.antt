@@ -1,13 +1,13 @@
--- The fields of queues and of rooms' shares as contracts see them.
+-- The fields of queues and of what rooms were said, as contracts see them.
 use Rattle.std.specs.Prelude.{◌≡◌, ℕ, ◌≤◌, Bool, false, List, length, slice_index_or, if◌then◌else◌}
 use Rattle.std.specs.List.{count_by}
 use Rattle.std.specs.VecDeque.{deque_len, deque_capacity}
 use Rattle.relay_schedule.specs.Queue.{Keys, times}
 use Rattle.relay_schedule.specs.Ready.{Lines, AreLines}
-use Rattle.relay_schedule.specs.Share.{Shares}
+use Rattle.relay_schedule.specs.ReadAhead.{ReadAheads}
 use Rattle.relay_schedule.specs.declared.key_queue.KeyQueue.TheInside as key_queue
 use Rattle.relay_schedule.specs.declared.ready_queue.ReadyQueue.TheInside as ready_queue
-use Rattle.relay_schedule.specs.declared.room_share.RoomShares.TheInside as room_shares
+use Rattle.relay_schedule.specs.declared.read_ahead.ReadAheadByRoom.TheInside as by_room
 
 -- the queue that contracts see
 abbrev pub keys_of : key_queue.Inside → Keys
@@ -38,6 +38,6 @@ lines_of queue = record {
 abbrev pub AreKept : ready_queue.Inside → Type 0
 AreKept queue = AreLines (lines_of queue)
 
--- the shares that contracts see
-abbrev pub shares_of : room_shares.Inside → Shares
-shares_of shares = record { rooms = shares.shares.items; limits = shares.limits }
+-- what each room was said, as contracts see it
+abbrev pub read_aheads_of : by_room.Inside → ReadAheads
+read_aheads_of all = record { rooms = all.rooms.items; limits = all.limits }

@@ -1,5 +1,6 @@
 //! What a connection may cost before others have their turns.
-ghost use Rattle.std.specs.Prelude.{◌≡◌, ◌≤◌, ◌<◌, ◌+◌, ◌-◌, ◌^◌, min, nat_lt, if◌then◌else◌};
+ghost use Rattle.std.specs.Prelude.{◌≡◌, ◌≤◌, ◌<◌, ◌+◌, ◌-◌, ◌^◌, max, min, nat_lt};
+ghost use Rattle.std.specs.Prelude.{if◌then◌else◌};
 ghost use Rattle.relay_schedule.specs.Credit.{left, has_credit};
 ghost use Rattle.relay_schedule.specs.declared.credit.TheConstants.{ROUND_CREDIT, ENTRY_DEBT};
 
@@ -74,6 +75,7 @@ impl Credit {
         ensures spent { self.new.spent
             ≡ (if nat_lt self.old.round round then self.old.spent - ROUND_CREDIT
             else self.old.spent) }
+        ensures round { self.new.round ≡ max self.old.round round }
         ensures bounded { left self.new ≤ ROUND_CREDIT }
     {
         if self.round < round {

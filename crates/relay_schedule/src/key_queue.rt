@@ -37,7 +37,8 @@ impl Model for KeyQueue {
 
 impl KeyQueue {
     ghost use Rattle.std.specs.Prelude.{◌≡◌, IsOk, OnOk, OnErr, length};
-    ghost use Rattle.relay_schedule.specs.Queue.{IsQueue, Admits, no_keys, is_empty, waits, admitting, queued, first, without_first, served};
+    ghost use Rattle.relay_schedule.specs.Queue.{IsQueue, Admits, no_keys, is_empty, waits};
+    ghost use Rattle.relay_schedule.specs.Queue.{admitting, queued, first, without_first, served};
 
     /// A queue without keys, which admits none.
     ///

@@ -4,7 +4,7 @@
 //! which is counted and not known before, so a credit may be overdrawn. Whoever has credit left has
 //! turns first, in order ([`ReadyQueue`]). Those who have none have theirs behind them, in order
 //! too: one of them at least in each round. A room is read no further ahead than may wait for a
-//! watcher that keeps up ([`RoomShares`]), and a round ends once it has cost as much as it may
+//! watcher that keeps up ([`ReadAheadByRoom`]), and a round ends once it has cost as much as it may
 //! ([`Spending`]). Output that is not sent is counted, link by link ([`LinkOutput`],
 //! [`OutputTotal`]).
 //!
@@ -20,8 +20,8 @@ mod empty_rooms;
 mod key_queue;
 mod output;
 mod queues;
+mod read_ahead;
 mod ready_queue;
-mod room_share;
 mod spending;
 
 pub use credit::{Credit, ENTRY_DEBT, ROUND_CREDIT};
@@ -29,6 +29,6 @@ pub use empty_rooms::EmptyRooms;
 pub use key_queue::KeyQueue;
 pub use output::{LinkOutput, OutputTotal, PATIENCE};
 pub use queues::{Output, Queues, Wants};
+pub use read_ahead::{ReadAhead, ReadAheadByRoom, ReadAheadLimits};
 pub use ready_queue::ReadyQueue;
-pub use room_share::{RoomShare, RoomShares, ShareLimits};
 pub use spending::Spending;

@@ -1,6 +1,6 @@
 //! What is held of the output of links, of each and of all together.
 ghost use Rattle.std.specs.Prelude.{ℕ, ◌≡◌, ◌≤◌, ◌<◌, ◌+◌, ◌-◌, ◌/◌, ◌^◌, max, min, nat_lt, not};
-ghost use Rattle.relay_schedule.specs.Output.{loaded, is_over_due};
+ghost use Rattle.relay_schedule.specs.Output.{loaded, moved_by, is_over_due};
 
 /// For how many seconds a link may take nothing of its output.
 pub const PATIENCE: u64 = 30;
@@ -56,6 +56,7 @@ impl LinkOutput {
     pub fn note(&mut self, drawn: u64, taken: u64, second: u64)
         ensures unsent { self.new.unsent ≡ loaded self.old drawn - taken }
         ensures held { self.new.held ≡ max self.old.held (loaded self.old drawn) }
+        ensures moved { self.new.moved ≡ moved_by self.old drawn taken second }
         ensures bounded { self.new.unsent ≤ self.new.held }
     {
         let before = self.unsent;

@@ -68,7 +68,11 @@ pub struct Queues {
 impl Queues {
     ghost use Rattle.std.specs.Prelude.{◌≡◌, IsOk, OnOk, OnErr, length};
     ghost use Rattle.relay_schedule.specs.Queue.{first};
-    ghost use Rattle.relay_schedule.specs.Queues.{AllAdmit, EachMayAdmit, no_queues, all_admitting, queued_for, with_writer, writers, without_writer, held_back, closing, with_held_back, without_held_back, without_closing, some_waits, waits_for};
+    ghost use Rattle.relay_schedule.specs.Queues.{AllAdmit, EachMayAdmit, no_queues, all_admitting};
+    ghost use Rattle.relay_schedule.specs.Queues.{queued_for, with_writer, writers, without_writer};
+    ghost use Rattle.relay_schedule.specs.Queues.{held_back, closing, with_held_back};
+    ghost use Rattle.relay_schedule.specs.Queues.{without_held_back, without_closing, some_waits};
+    ghost use Rattle.relay_schedule.specs.Queues.{waits_for};
 
     /// Queues without keys, which admit none.
     ///

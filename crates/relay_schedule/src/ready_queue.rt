@@ -43,7 +43,10 @@ impl Model for ReadyQueue {
 impl ReadyQueue {
     ghost use Rattle.std.specs.Prelude.{◌≡◌, ◌++◌, IsOk, OnOk, OnErr, length, option_to_list};
     ghost use Rattle.relay_schedule.specs.Queue.{first};
-    ghost use Rattle.relay_schedule.specs.Ready.{AreLines, BothAdmit, LinesMayAdmit, no_lines, are_empty, stands, both_admitting, lined_up, without_credited, in_round, without_owing, unserved};
+    ghost use Rattle.relay_schedule.specs.Ready.{AreLines, BothAdmit, LinesMayAdmit, no_lines};
+    ghost use Rattle.relay_schedule.specs.Ready.{are_empty, stands, both_admitting, lined_up};
+    ghost use Rattle.relay_schedule.specs.Ready.{without_credited, in_round, without_owing};
+    ghost use Rattle.relay_schedule.specs.Ready.{unserved};
 
     /// A queue without keys, which admits none.
     ///

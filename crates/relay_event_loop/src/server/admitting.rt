@@ -1,7 +1,8 @@
 //! In which rooms clients may enter.
 ghost use Rattle.std.specs.Prelude.{◌≡◌};
 ghost use Rattle.relay_event_loop.specs.Advances.{KeepsFewer};
-ghost use Rattle.relay_event_loop.specs.Connections.{connections_of, entrance_of, hub_of, limit_of, made_by};
+ghost use Rattle.relay_event_loop.specs.Connections.{connections_of, entrance_of, hub_of, limit_of};
+ghost use Rattle.relay_event_loop.specs.Connections.{made_by};
 ghost use Rattle.relay_event_loop.specs.Rounds.{RoundsOf};
 
 use super::Server;

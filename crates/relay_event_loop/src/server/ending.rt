@@ -111,9 +111,9 @@ impl<S: Read + Write + OpenStream + Drop, R: Readiness<S>> Server<S, R> {
     }
 
     /// Once a second, if links hold as much output as they may, ends at most [`MAX_ENDS`] of them,
-    /// until half of the limit is free. The largest buffer goes first. Only a link that holds an
-    /// equal share at least is ended, and only if it has sent everything, or its stream took
-    /// nothing for long.
+    /// until half of the limit is free. The largest buffer goes first. Only a link that holds the
+    /// average of all links at least is ended, and only if it has sent everything, or its stream
+    /// took nothing for long.
     #[tactic(auto, using(crate::proofs::Rules::advances))]
     pub(super) fn relieve<J: ConnectionLog>(&mut self, alloc: Global, before: u64, log: &mut J)
         ensures { KeepsFewer S.remaining S.contents self.old self.new }
@@ -131,8 +131,8 @@ impl<S: Read + Write + OpenStream + Drop, R: Readiness<S>> Server<S, R> {
         }
     }
 
-    /// The key of the connection that holds the most output, at least an equal share, of those of
-    /// which nothing waits or nothing was taken for long.
+    /// The key of the connection that holds the most output, at least the average of all, among
+    /// those of which nothing waits or nothing was taken for long.
     fn first_to_end(&self) -> Option<usize> {
         let mut first = None;
         let mut most = self.output.share(self.connections.len()).saturating_sub(1);

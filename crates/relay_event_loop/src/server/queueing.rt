@@ -6,14 +6,14 @@
 //! something ([`relay_hub::Hub::told`]), so no other connection is looked at.
 //!
 //! A room counts its connections that are queued to be written to. It may be said more than its
-//! share only once there are none.
+//! limits only once there are none.
 ghost use Rattle.relay_event_loop.specs.Advances.{KeepsFewer};
 
 use super::Server;
 use crate::connection::Connection;
 use relay_link::Turn;
 use relay_operator::Readiness;
-use relay_schedule::RoomShares;
+use relay_schedule::ReadAheadByRoom;
 use std::io::{Read, Write};
 use std::net::OpenStream;
 
@@ -161,7 +161,7 @@ impl<S: Read + Write + OpenStream + Drop, R: Readiness<S>> Server<S, R> {
 
 /// Notes that a connection waits no longer to be written to.
 pub(super) fn uncount_writer<S: Read + Write + Drop>(
-    rooms: &mut RoomShares,
+    rooms: &mut ReadAheadByRoom,
     connection: &Connection<S>,
 ) {
     if let (true, Some(index)) = (connection.set_counted(false), connection.room_index()) {
@@ -170,7 +170,7 @@ pub(super) fn uncount_writer<S: Read + Write + Drop>(
 }
 
 /// Notes that a connection waits to be written to, once.
-fn count_writer<S: Read + Write + Drop>(rooms: &mut RoomShares, connection: &Connection<S>) {
+fn count_writer<S: Read + Write + Drop>(rooms: &mut ReadAheadByRoom, connection: &Connection<S>) {
     if let (false, Some(index)) = (connection.set_counted(true), connection.room_index()) {
         rooms.add_writer(index);
     }
