@@ -1,5 +1,7 @@
 -- What is known of a request that is admitted, and of one that is not.
-use Rattle.std.proofs.Common.{◌≡◌, ℕ, zero, suc, ◌+◌, ◌≤◌, ◌<◌, drop, slice_get, option_map, Bool, true, false, List, [], ◌∷◌, length, Option, Some, None, Result, Ok, Err, refl, sym, ◌∙◌, ap, subst, arith, if◌then◌else◌}
+use Rattle.std.proofs.Common.{◌≡◌, ℕ, zero, suc, ◌+◌, ◌≤◌, ◌<◌, drop, slice_get, option_map, Bool}
+use Rattle.std.proofs.Common.{true, false, List, [], ◌∷◌, length, Option, Some, None, Result, Ok}
+use Rattle.std.proofs.Common.{Err, refl, sym, ◌∙◌, ap, subst, arith, if◌then◌else◌}
 use Rattle.std.specs.Option.{option_map_or}
 use Rattle.relay_patch.specs.declared.op.Op.{Op}
 use Rattle.relay_pointer.specs.Weight.{path_weight}
@@ -8,7 +10,8 @@ use Rattle.relay_proto.specs.Request.{request_of_text}
 use Rattle.relay_access.specs.declared.access.Access.{Access}
 use Rattle.relay_proto.specs.declared.refusal.Refusal.{Refusal}
 use Rattle.relay_proto.specs.declared.request.Request.{Request}
-use Rattle.relay_proto.specs.declared.request.Request.TheVariants.{Edit, Will, Watch, Resume, Unwatch}
+use Rattle.relay_proto.specs.declared.request.Request.TheVariants.{Edit, Will, Watch, Resume}
+use Rattle.relay_proto.specs.declared.request.Request.TheVariants.{Unwatch}
 use Rattle.relay_tree.specs.Budget.{paid}
 use Rattle.relay_tree.specs.Document.{Document}
 use Rattle.relay_tree.specs.declared.budget.Budget.{Budget}
@@ -19,7 +22,8 @@ use Rattle.relay_view.specs.declared.view.TheConstants.{MAX_SLOTS}
 use Rattle.relay_proto.specs.Written.{IsCount}
 use Rattle.relay_proto.specs.declared.word.Word.TheVariants as word
 use Rattle.relay_hub.specs.Refusal.{refusal}
-use Rattle.relay_hub.specs.Admitted.{may_edit, permitted, unpaid_slot, unless_unpaid, affordable, admitted}
+use Rattle.relay_hub.specs.Admitted.{may_edit, permitted, unpaid_slot, unless_unpaid, affordable}
+use Rattle.relay_hub.specs.Admitted.{admitted}
 use Rattle.relay_hub.specs.Log.{Watching, will_after, requested, asked}
 
 -- A request that is admitted is permitted, and was sent as it is.

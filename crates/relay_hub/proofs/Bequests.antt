@@ -1,6 +1,8 @@
 -- A will that is done keeps a hub standing for its log: accepted, it adds a document to its room
 -- and notifies the watchers; refused, it leaves all as it was.
-use Rattle.std.proofs.Common.{◌≡◌, ◌≢◌, ℕ, true, List, [], ◌∷◌, ◌++◌, map, Option, Some, None, Result, Ok, Err, refl, sym, ◌∙◌, ap, subst, slice_get, bytes_eq, if◌then◌else◌}
+use Rattle.std.proofs.Common.{◌≡◌, ◌≢◌, ℕ, true, List, [], ◌∷◌, ◌++◌, map, Option, Some, None}
+use Rattle.std.proofs.Common.{Result, Ok, Err, refl, sym, ◌∙◌, ap, subst, slice_get, bytes_eq}
+use Rattle.std.proofs.Common.{if◌then◌else◌}
 use Rattle.std.specs.Result.{result_ok}
 use Rattle.std.proofs.lemmas.Slice.Eq.{bytes_eq-Decides}
 use Rattle.relay_patch.specs.Change.{all_changes}
@@ -8,7 +10,8 @@ use Rattle.relay_room.specs.Edit.{edited}
 use Rattle.relay_room.specs.Room.{State as Room}
 use Rattle.relay_room.specs.declared.fault.EditFault.{EditFault}
 use Rattle.relay_tree.specs.Document.{Document}
-use Rattle.relay_hub.specs.Log.{Log, Entry, Bequest, entry, home, next_document, extended, documents, beginning, left, watching}
+use Rattle.relay_hub.specs.Log.{Log, Entry, Bequest, entry, home, next_document, extended}
+use Rattle.relay_hub.specs.Log.{documents, beginning, left, watching}
 use Rattle.relay_hub.specs.Stands.{RoomStands, named_will, StandsFor}
 use Rattle.relay_hub.specs.State.{RoomSessions, State, RoomOf, HaveRooms, session_in}
 use Rattle.relay_hub.specs.Step.{WillServed, with_room, with_wills, InRoom, DoesWill}
@@ -19,7 +22,8 @@ use Rattle.relay_hub.specs.declared.event.Event.TheVariants.{DoWill}
 use Rattle.relay_hub.specs.declared.will.Will.{Will}
 use Rattle.relay_hub.proofs.Documents.{goes_on_stands, trimmed_stands}
 use Rattle.relay_hub.proofs.Edits.{same_edit, notified_session}
-use Rattle.relay_hub.proofs.Frames.{Quiet, unaffected, room_and_wills_change, session_stands, session_stays}
+use Rattle.relay_hub.proofs.Frames.{Quiet, unaffected, room_and_wills_change, session_stands}
+use Rattle.relay_hub.proofs.Frames.{session_stays}
 use Rattle.relay_hub.proofs.Notified.{each_notified}
 use Rattle.relay_hub.proofs.Rooms.{by_name}
 
@@ -52,7 +56,7 @@ module _ (b : HubConfig) (E : Log) (old : State) (w : Will) (wills : List Will) 
   have : HaveRooms old.rooms wills
   have =
       let all : HaveRooms old.rooms (w ∷ wills) =
-      subst (HaveRooms old.rooms) is stands.willing in all.1
+      subst (HaveRooms old.rooms) is stands.housed in all.1
 
   quiet : Quiet E e
   quiet = record { opened = refl; count = refl; rooms = λ name. refl }

@@ -1,5 +1,7 @@
 -- What is kept of the updates of one edit.
-use Rattle.std.proofs.Common.{◌≡◌, ◌⊎◌, inl, inr, ℕ, zero, suc, Bool, true, false, ◌||◌, List, [], ◌∷◌, take, ◌<◌, length, slice_index_or, if◌then◌else◌, Some, Result, Ok, Err, IfOk, rules, arith, refl, sym, subst, ap, ◌∙◌}
+use Rattle.std.proofs.Common.{◌≡◌, ◌⊎◌, inl, inr, ℕ, zero, suc, Bool, true, false, ◌||◌, List, []}
+use Rattle.std.proofs.Common.{◌∷◌, take, ◌<◌, length, slice_index_or, if◌then◌else◌, Some, Result}
+use Rattle.std.proofs.Common.{Ok, Err, IfOk, rules, arith, refl, sym, subst, ap, ◌∙◌}
 use Rattle.std.proofs.ByRecursion.{All-take}
 use Rattle.std.specs.List.{AllByRecursion, Contains, take-map}
 use Rattle.std.specs.declared.alloc.AllocError.{AllocError}
@@ -13,10 +15,12 @@ use Rattle.relay_room.specs.declared.catch_up.CatchUp.TheVariants.{Nothing, Patc
 use Rattle.relay_tree.specs.Document.{Document}
 use Rattle.relay_tree.proofs.Equal.{neither}
 use Rattle.relay_view.specs.View.{View}
-use Rattle.relay_hub.specs.Allowance.{Allowance, is_made, same_view, less, within, after_patch, after_update}
+use Rattle.relay_hub.specs.Allowance.{Allowance, is_made, same_view, less, within, after_patch}
+use Rattle.relay_hub.specs.Allowance.{after_update}
 use Rattle.relay_patch.specs.declared.op.Op.{Op}
 use Rattle.relay_tree.specs.declared.budget.Budget.{Budget}
-use Rattle.relay_hub.specs.CachedUpdate.{IsUpdate, IsPatch, is_patch, shared_within, spent, Tells, IsKeptPatch, IsKeptOther, IsKept, views_of, allowance_of}
+use Rattle.relay_hub.specs.CachedUpdate.{IsUpdate, IsPatch, is_patch, shared_within, spent, Tells}
+use Rattle.relay_hub.specs.CachedUpdate.{IsKeptPatch, IsKeptOther, IsKept, views_of, allowance_of}
 use Rattle.relay_hub.specs.Session.{Session, with_outbox, led_outbox}
 use Rattle.relay_hub.specs.Step.{telling, NotifiedAs, Notified, after_notified}
 use Rattle.relay_hub.specs.Update.{update_of, heard}

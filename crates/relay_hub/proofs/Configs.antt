@@ -1,6 +1,7 @@
 -- The ranges of a configuration: a number is out of its range, or the configuration is one.
 use Rattle.std.proofs.Common.{◌<◌, ◌⊎◌, inl, inr, arith}
-use Rattle.relay_limits.specs.declared.TheConstants.{MAX_COUNT, MAX_REVISIONS, MAX_ROOMS, MAX_SESSIONS, MAX_WAITING_PATCHES}
+use Rattle.relay_limits.specs.declared.TheConstants.{MAX_COUNT, MAX_REVISIONS, MAX_ROOMS}
+use Rattle.relay_limits.specs.declared.TheConstants.{MAX_SESSIONS, MAX_WAITING_PATCHES}
 use Rattle.relay_hub.specs.Queries.{BadLimits}
 use Rattle.relay_hub.specs.State.{IsConfig}
 use Rattle.relay_hub.specs.declared.config.HubConfig.{HubConfig}

@@ -1,14 +1,18 @@
 -- The documents of a room as they grow, and how a room that has them changes.
-use Rattle.std.proofs.Common.{◌≡◌, ℕ, zero, suc, ◌+◌, ◌-◌, ◌<◌, ◌≤◌, List, [], ◌∷◌, ◌++◌, length, take, Some, refl, sym, ◌∙◌, ap, subst, arith, length-append, ◌⊎◌, inl, inr, slice_get, min}
+use Rattle.std.proofs.Common.{◌≡◌, ℕ, zero, suc, ◌+◌, ◌-◌, ◌<◌, ◌≤◌, List, [], ◌∷◌, ◌++◌, length}
+use Rattle.std.proofs.Common.{take, Some, refl, sym, ◌∙◌, ap, subst, arith, length-append, ◌⊎◌, inl}
+use Rattle.std.proofs.Common.{inr, slice_get, min}
 use Rattle.std.proofs.lemmas.Bool.{cases_lt}
 use Rattle.std.proofs.lemmas.Option.{slice_get-get_or}
 use Rattle.relay_tree.specs.Document.{Document, null}
 use Rattle.relay_tree.specs.declared.budget.Budget.{Budget}
 use Rattle.relay_tree.specs.declared.budget.Budget.TheVariants.{Unbounded}
 use Rattle.relay_history.specs.Trimmed as trim
-use Rattle.relay_history.proofs.Trims.{trimmed_unbounded, trimmed_reaches, trimmed_changes_since, trimmed_slice_get}
+use Rattle.relay_history.proofs.Trims.{trimmed_unbounded, trimmed_reaches, trimmed_changes_since}
+use Rattle.relay_history.proofs.Trims.{trimmed_slice_get}
 use Rattle.relay_history.specs.History.{Past, IsHistory, Reaches, with_revision, changes_since}
-use Rattle.relay_history.proofs.Growing.{held-with_revision, changes_since-newest, changes_since-with_revision}
+use Rattle.relay_history.proofs.Growing.{held-with_revision, changes_since-newest}
+use Rattle.relay_history.proofs.Growing.{changes_since-with_revision}
 use Rattle.relay_patch.specs.Change.{Leads, all_changes}
 use Rattle.relay_patch.specs.declared.change.Change.{Change}
 use Rattle.relay_patch.specs.declared.op.Op.{Op}

@@ -1,5 +1,8 @@
 -- Openings and closings.
-use Rattle.std.proofs.Common.{◌≡◌, ◌≢◌, ℕ, zero, suc, ◌+◌, ◌-◌, ◌<◌, ◌≤◌, ◌==◌, ◌⊎◌, min, Bool, true, false, List, [], ◌∷◌, ◌++◌, length, length-append, replicate, not, Option, Some, None, refl, sym, ◌∙◌, ap, subst, arith, inl, inr, slice_get, slice_set, nat_lt, nat_le, ◌||◌, if◌then◌else◌}
+use Rattle.std.proofs.Common.{◌≡◌, ◌≢◌, ℕ, zero, suc, ◌+◌, ◌-◌, ◌<◌, ◌≤◌, ◌==◌, ◌⊎◌, min, Bool}
+use Rattle.std.proofs.Common.{true, false, List, [], ◌∷◌, ◌++◌, length, length-append, replicate}
+use Rattle.std.proofs.Common.{not, Option, Some, None, refl, sym, ◌∙◌, ap, subst, arith, inl, inr}
+use Rattle.std.proofs.Common.{slice_get, slice_set, nat_lt, nat_le, ◌||◌, if◌then◌else◌}
 use Rattle.std.proofs.lemmas.Bool.Decides.{eqb_tells, nat_tests}
 use Rattle.std.proofs.lemmas.List.{length-replicate, length-set, map-append}
 use Rattle.std.proofs.lemmas.Option.{slice_get_within}
@@ -14,22 +17,34 @@ use Rattle.relay_tree.specs.declared.budget.Budget.TheVariants.{Unbounded}
 use Rattle.relay_room.specs.Room.{begun, revision}
 use Rattle.relay_room.proofs.Rooms.{begun_is_room}
 use Rattle.relay_tree.specs.Document.{Document, null}
-use Rattle.relay_hub.specs.Log.{Log, Entry, entry, stay, home, is_opened, documents, reaching, beginning, watching}
+use Rattle.relay_hub.specs.Log.{Log, Entry, entry, stay, home, is_opened, documents, reaching}
+use Rattle.relay_hub.specs.Log.{beginning, watching}
 use Rattle.relay_hub.specs.Session.{newcomer}
-use Rattle.relay_hub.specs.Stands.{RoomStands, OutboxStands, RoomSessionsStand, HomeStands, MayBegin, named_will, StandsFor}
-use Rattle.relay_hub.specs.State.{RoomSessions, room_sessions, State, RoomOf, index_of, index_named, vacant_in, Home, above, floor_over, floor_at, is_crowded, session_in}
+use Rattle.relay_hub.specs.Stands.{RoomStands, OutboxStands, RoomSessionsStand, HomeStands}
+use Rattle.relay_hub.specs.Stands.{MayBegin, named_will, StandsFor}
+use Rattle.relay_hub.specs.State.{RoomSessions, room_sessions, State, RoomOf, index_of, index_named}
+use Rattle.relay_hub.specs.State.{vacant_in, Home, above, floor_over, floor_at, is_crowded}
+use Rattle.relay_hub.specs.State.{session_in}
 use Rattle.relay_hub.specs.Step.{open_fault, Founds, floor_after, Enters, Opens, left_of, Closes}
 use Rattle.relay_hub.specs.declared.config.HubConfig.{HubConfig}
 use Rattle.relay_hub.specs.declared.event.Answer.TheVariants.{Opened, Closed}
 use Rattle.relay_hub.specs.declared.event.Event.TheVariants.{Open, Close}
 use Rattle.relay_hub.specs.declared.event.Opening.{Opening}
-use Rattle.relay_hub.specs.declared.fault.OpenFault.TheVariants.{RoomName, RoomsFull, SessionsFull, Exhausted}
-use Rattle.relay_hub.proofs.Frames.{set_rooms, set_names, set_known, set_others, set_home, session_stands, session_stays, room_sessions_stay, here}
+use Rattle.relay_hub.specs.declared.fault.OpenFault.TheVariants.{RoomName, RoomsFull, SessionsFull}
+use Rattle.relay_hub.specs.declared.fault.OpenFault.TheVariants.{Exhausted}
+use Rattle.relay_hub.proofs.Frames.{set_rooms, set_names, set_known, set_others, set_home}
+use Rattle.relay_hub.proofs.Frames.{session_stands, session_stays, room_sessions_stay, here}
 use Rattle.relay_hub.proofs.Cases.{by_finding}
-use Rattle.relay_hub.proofs.Lists.{append_cases, slice_set_cases, slice_get-set, slice_get-set_other, slice_get-earlier, slice_get-last}
-use Rattle.relay_hub.proofs.Rooms.{by_name, named_earlier, named_last, named_apart, named_other, named_written, name_found, first_document, may_begin_again, joined, joined_beginning, begun_here, begun_elsewhere, beginning_within, begun_beginning_here, begun_beginning_elsewhere, Vacant, vacant, none_left}
+use Rattle.relay_hub.proofs.Lists.{append_cases, slice_set_cases, slice_get-set}
+use Rattle.relay_hub.proofs.Lists.{slice_get-set_other, slice_get-earlier, slice_get-last}
+use Rattle.relay_hub.proofs.Rooms.{by_name, named_earlier, named_last, named_apart, named_other}
+use Rattle.relay_hub.proofs.Rooms.{named_written, name_found, first_document, may_begin_again}
+use Rattle.relay_hub.proofs.Rooms.{joined, joined_beginning, begun_here, begun_elsewhere}
+use Rattle.relay_hub.proofs.Rooms.{beginning_within, begun_beginning_here}
+use Rattle.relay_hub.proofs.Rooms.{begun_beginning_elsewhere, Vacant, vacant, none_left}
 use Rattle.relay_hub.proofs.Floors.{floor_count, floor_rises}
-use Rattle.relay_hub.proofs.Wills.{have_more, have_set, have_left, named_set as same_wills, named_earlier as same_wills_earlier, named_left}
+use Rattle.relay_hub.proofs.Wills.{have_more, have_set, have_left, named_set as same_wills}
+use Rattle.relay_hub.proofs.Wills.{named_earlier as same_wills_earlier, named_left}
 
 -- Openings.
 
@@ -224,12 +239,12 @@ module _ (b : HubConfig) (E : Log) (old new : State) (name : List ℕ) (access :
         wills = rw (
           enters.5,
           step.wills,
-        ) (same_wills old.rooms i known g h old.wills at stands.willing
+        ) (same_wills old.rooms i known g h old.wills at stands.housed
             ∙ stands.wills);
-        willing = rw (
+        housed = rw (
           enters.5,
           step.wills,
-        ) (have_set old.rooms i (known, h) old.wills stands.willing);
+        ) (have_set old.rooms i (known, h) old.wills stands.housed);
       }
 
   -- the room that the opening makes
@@ -386,13 +401,13 @@ module _ (b : HubConfig) (E : Log) (old new : State) (name : List ℕ) (access :
       wills = rw (
         enters.1,
         step.wills,
-      ) (same_wills_earlier old.rooms (name, founded) old.wills stands.willing
+      ) (same_wills_earlier old.rooms (name, founded) old.wills stands.housed
           ∙ stands.wills);
-      willing = rw (
+      housed = rw (
         enters.1,
         step.wills,
       ) (have_more old.rooms (old.rooms ++ (name, founded) ∷ []) old.wills
-          (omega (arith, length-append old.rooms ((name, founded) ∷ []))) stands.willing);
+          (omega (arith, length-append old.rooms ((name, founded) ∷ []))) stands.housed);
     }
       where
         cases : (p : ℕ) (known : List ℕ) (g : RoomSessions)
@@ -489,7 +504,7 @@ module _ (b : HubConfig) (E : Log) (old new : State) (name : List ℕ) (access :
             rw (o.0, o.1, o.2, enters.1) (elsewhere t (index_of old t) (stands.sessions t))
       ];
       wills = rw (step.wills, none) (rw none at stands.wills);
-      willing = rw (step.wills, none) tt;
+      housed = rw (step.wills, none) tt;
     }
       where
         taken : index_named v.name old.rooms ≡ Some i
@@ -606,13 +621,13 @@ close_stands b E old new s mine stands step =
         at_home.0,
         map-append (named_will (slice_set old.rooms r.index (r.name, h))) old.wills
             (left_of r.index will),
-        same_wills old.rooms r.index r.name r.room_sessions h old.wills r.there stands.willing,
+        same_wills old.rooms r.index r.name r.room_sessions h old.wills r.there stands.housed,
         stands.wills,
         named_left (slice_set old.rooms r.index (r.name, h)) r.index r.name h will there,
       ) refl;
-      willing =
+      housed =
           rw (step.rooms, step.wills)
           (have_left (slice_set old.rooms r.index (r.name, h)) old.wills r.index will
           (omega (arith, within, length-set old.rooms r.index (r.name, h)))
-          (have_set old.rooms r.index (r.name, h) old.wills stands.willing));
+          (have_set old.rooms r.index (r.name, h) old.wills stands.housed));
     }

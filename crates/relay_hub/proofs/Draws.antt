@@ -1,5 +1,6 @@
 -- Draws: the text that is drawn reads as its message, which was waiting and is now received.
-use Rattle.std.proofs.Common.{◌≡◌, ℕ, ◌==◌, Bool, true, false, List, [], ◌∷◌, ◌++◌, Option, Some, None, refl, sym, ap, subst, arith, append_assoc}
+use Rattle.std.proofs.Common.{◌≡◌, ℕ, ◌==◌, Bool, true, false, List, [], ◌∷◌, ◌++◌, Option, Some}
+use Rattle.std.proofs.Common.{None, refl, sym, ap, subst, arith, append_assoc}
 use Rattle.std.specs.List.{AllByRecursion}
 use Rattle.std.specs.Prelude.{⊤, option_map}
 use Rattle.std.proofs.lemmas.Bool.Decides.{nat_tests}
@@ -18,7 +19,8 @@ use Rattle.relay_proto.proofs.Written.{reply_text_back}
 use Rattle.relay_room.specs.Room.{State as Room, IsRoom, revision}
 use Rattle.relay_tree.specs.Document.{Document}
 use Rattle.relay_hub.specs.Log.{Log, Watching, entry, documents, view_message, hearing, watching}
-use Rattle.relay_hub.specs.Session.{Session, session_with, snapshot_of, patch_message, message_of, message_text, ReadsBack, drawn, later}
+use Rattle.relay_hub.specs.Session.{Session, session_with, snapshot_of, patch_message, message_of}
+use Rattle.relay_hub.specs.Session.{message_text, ReadsBack, drawn, later}
 use Rattle.relay_hub.specs.Stands.{PatchFits, WatchStands, Follows, StandsFor}
 use Rattle.relay_hub.specs.State.{RoomSessions, State, Home}
 use Rattle.relay_hub.specs.Step.{Draws, with_room}

@@ -1,5 +1,6 @@
 -- A watcher whose snapshot is due is unchanged when it is notified of an edit.
-use Rattle.std.proofs.Common.{◌≡◌, ◌-◌, ◌<◌, true, false, List, Option, Some, None, refl, arith, nat_lt}
+use Rattle.std.proofs.Common.{◌≡◌, ◌-◌, ◌<◌, true, false, List, Option, Some, None, refl, arith}
+use Rattle.std.proofs.Common.{nat_lt}
 use Rattle.std.proofs.lemmas.Bool.Decides.{nat_tests}
 use Rattle.relay_history.specs.History.{Reaches, oldest, changes_since}
 use Rattle.relay_patch.specs.Change.{Leads}

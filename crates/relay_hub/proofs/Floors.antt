@@ -1,5 +1,6 @@
 -- The revision at which a new room begins.
-use Rattle.std.proofs.Common.{◌≡◌, ℕ, ◌≤◌, false, List, Option, Some, None, refl, arith, max, is_some, option_and_then, slice_get}
+use Rattle.std.proofs.Common.{◌≡◌, ℕ, ◌≤◌, false, List, Option, Some, None, refl, arith, max}
+use Rattle.std.proofs.Common.{is_some, option_and_then, slice_get}
 use Rattle.relay_limits.specs.declared.TheConstants.{MAX_COUNT}
 use Rattle.relay_hub.specs.State.{RoomSessions, State, vacant_in, above, floor_over}
 use Rattle.relay_hub.specs.Step.{floor_after}

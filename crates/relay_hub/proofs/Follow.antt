@@ -1,5 +1,7 @@
 -- What a client that follows a view holds, as messages arrive.
-use Rattle.std.proofs.Common.{◌≡◌, ℕ, ◌<◌, Bool, true, false, List, [], ◌∷◌, ◌++◌, Option, Some, None, Ok, refl, sym, ◌∙◌, ap, subst, arith, append_assoc, append-nil, length-append, slice_get, option_map, nat_lt, map, if◌then◌else◌}
+use Rattle.std.proofs.Common.{◌≡◌, ℕ, ◌<◌, Bool, true, false, List, [], ◌∷◌, ◌++◌, Option, Some}
+use Rattle.std.proofs.Common.{None, Ok, refl, sym, ◌∙◌, ap, subst, arith, append_assoc, append-nil}
+use Rattle.std.proofs.Common.{length-append, slice_get, option_map, nat_lt, map, if◌then◌else◌}
 use Rattle.std.proofs.lemmas.Bool.Decides.{nat_tests}
 use Rattle.std.proofs.lemmas.List.{map-append}
 use Rattle.std.proofs.lemmas.Option.{slice_get_within}
@@ -19,9 +21,11 @@ use Rattle.relay_tree.specs.Document.{Document}
 use Rattle.relay_tree.specs.declared.budget.Budget.{Budget}
 use Rattle.relay_view.specs.View.{View, view}
 use Rattle.relay_hub.specs.Log.{Watching, begun}
-use Rattle.relay_hub.specs.Session.{led_outbox, notified_outbox, with_patch_within, snapshot_of, patch_message, later}
+use Rattle.relay_hub.specs.Session.{led_outbox, notified_outbox, with_patch_within, snapshot_of}
+use Rattle.relay_hub.specs.Session.{patch_message, later}
 use Rattle.relay_hub.specs.declared.config.HubConfig.{HubConfig}
-use Rattle.relay_hub.specs.Stands.{HoldsRevision, IsAtNamed, EachLeads, HoldsPresent, Follows, RoomStands}
+use Rattle.relay_hub.specs.Stands.{HoldsRevision, IsAtNamed, EachLeads, HoldsPresent, Follows}
+use Rattle.relay_hub.specs.Stands.{RoomStands}
 use Rattle.relay_hub.proofs.Documents.{slice_get-present}
 use Rattle.relay_hub.proofs.Lists.{slice_get-earlier}
 use Rattle.relay_hub.proofs.Waiting.{by_waiting, by_weight, by_due}

@@ -1,5 +1,7 @@
 -- A room that is forgotten keeps a hub standing for its log.
-use Rattle.std.proofs.Common.{◌≡◌, ◌≢◌, ℕ, ◌<◌, ◌==◌, ◌&&◌, Bool, true, false, List, [], ◌∷◌, length, not, Option, Some, None, refl, sym, ◌∙◌, ap, arith, inl, slice_get, nat_le, bytes_eq, if◌then◌else◌}
+use Rattle.std.proofs.Common.{◌≡◌, ◌≢◌, ℕ, ◌<◌, ◌==◌, ◌&&◌, Bool, true, false, List, [], ◌∷◌}
+use Rattle.std.proofs.Common.{length, not, Option, Some, None, refl, sym, ◌∙◌, ap, arith, inl}
+use Rattle.std.proofs.Common.{slice_get, nat_le, bytes_eq, if◌then◌else◌}
 use Rattle.std.proofs.lemmas.Bool.Decides.{nat_tests}
 use Rattle.std.proofs.lemmas.Slice.Eq.{bytes_eq-Decides}
 use Rattle.relay_room.specs.Room.{begun, revision}
@@ -8,7 +10,8 @@ use Rattle.relay_limits.specs.declared.TheConstants.{MAX_COUNT}
 use Rattle.relay_hub.specs.Log.{Log, Entry, entry, home, documents, reaching, beginning, watching}
 use Rattle.relay_hub.specs.Session.{Session}
 use Rattle.relay_hub.specs.Stands.{RoomStands, SessionStands, StandsFor}
-use Rattle.relay_hub.specs.State.{RoomSessions, room_sessions, State, RoomOf, index_named, session_in}
+use Rattle.relay_hub.specs.State.{RoomSessions, room_sessions, State, RoomOf, index_named}
+use Rattle.relay_hub.specs.State.{session_in}
 use Rattle.relay_hub.specs.Step.{anew_fault, forget_fault, Forgets}
 use Rattle.relay_hub.specs.declared.config.HubConfig.{HubConfig}
 use Rattle.relay_hub.specs.declared.event.Answer.TheVariants.{Forgotten}

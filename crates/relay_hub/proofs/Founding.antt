@@ -1,5 +1,6 @@
 -- A new room in the map that the code keeps: behind the others, or at the index of one.
-use Rattle.std.proofs.Common.{◌≡◌, ◌∙◌, ◌<◌, ◌-◌, ap, sym, arith, ℕ, zero, suc, Option, Some, None, slice_get, List, [], ◌∷◌, ◌++◌, length, length-append, slice_set}
+use Rattle.std.proofs.Common.{◌≡◌, ◌∙◌, ◌<◌, ◌-◌, ap, sym, arith, ℕ, zero, suc, Option, Some, None}
+use Rattle.std.proofs.Common.{slice_get, List, [], ◌∷◌, ◌++◌, length, length-append, slice_set}
 use Rattle.std.specs.Prelude.{swap_remove, IfSome, string_bytes}
 use Rattle.std.specs.String.{string_eq}
 use Rattle.std.specs.declared.string.String.{String}

@@ -1,12 +1,16 @@
 -- An entry that changes only one room, or nothing, keeps a hub standing for its log.
-use Rattle.std.proofs.Common.{◌≡◌, ◌≢◌, ℕ, ◌==◌, true, List, ◌∷◌, Option, Some, None, refl, sym, ◌∙◌, ap, subst, inl, inr, slice_get, slice_set, map, if◌then◌else◌}
+use Rattle.std.proofs.Common.{◌≡◌, ◌≢◌, ℕ, ◌==◌, true, List, ◌∷◌, Option, Some, None, refl, sym}
+use Rattle.std.proofs.Common.{◌∙◌, ap, subst, inl, inr, slice_get, slice_set, map, if◌then◌else◌}
 use Rattle.std.proofs.lemmas.Bool.Decides.{eqb_tells}
 use Rattle.relay_room.specs.Room.{State as Room}
 use Rattle.relay_tree.specs.Document.{Document}
-use Rattle.relay_hub.specs.Log.{Log, Entry, Watching, Stay, stay, home, is_opened, documents, beginning, watching, left, opened, open_count}
+use Rattle.relay_hub.specs.Log.{Log, Entry, Watching, Stay, stay, home, is_opened, documents}
+use Rattle.relay_hub.specs.Log.{beginning, watching, left, opened, open_count}
 use Rattle.relay_hub.specs.Session.{Session}
-use Rattle.relay_hub.specs.Stands.{RoomStands, OutboxStands, WatchStands, SessionStands, RoomSessionsStand, HomeStands, MayBegin, named_will, StandsFor}
-use Rattle.relay_hub.specs.State.{RoomSessions, State, HaveRooms, RoomOf, Home, index_of, index_named, session_in}
+use Rattle.relay_hub.specs.Stands.{RoomStands, OutboxStands, WatchStands, SessionStands}
+use Rattle.relay_hub.specs.Stands.{RoomSessionsStand, HomeStands, MayBegin, named_will, StandsFor}
+use Rattle.relay_hub.specs.State.{RoomSessions, State, HaveRooms, RoomOf, Home, index_of}
+use Rattle.relay_hub.specs.State.{index_named, session_in}
 use Rattle.relay_hub.specs.Step.{ChangesOnly, with_room, with_wills}
 use Rattle.relay_hub.specs.declared.config.HubConfig.{HubConfig}
 use Rattle.relay_hub.specs.declared.will.Will.{Will}
@@ -95,7 +99,7 @@ unaffected b E e hub h quiet begins leaves homes same watches = record {
       (home_stays b.max_waiting_patches (documents E) (documents (e ∷ E)) hub.rooms t
       (index_of hub t) (home E t) (watching b E t) same (h.sessions t));
   wills = h.wills ∙ sym leaves;
-  willing = h.willing;
+  housed = h.housed;
 }
 
 -- an entry after which the room at an index differs, and no documents of other names do
@@ -219,7 +223,7 @@ module _ (b : HubConfig) (E : Log) (e : Entry) (old : State) (r : RoomOf old) (h
     sessions =
         λ t. set_home t (home (e ∷ E) t) (watching b (e ∷ E) t) (homes t) (watches t) (here t);
     wills = same_wills old.rooms r.index r.name r.room_sessions h wills r.there have ∙ leaves;
-    willing = have_set old.rooms r.index (r.name, h) wills have;
+    housed = have_set old.rooms r.index (r.name, h) wills have;
   }
 
   -- the same if the wills are those that were left
@@ -233,7 +237,7 @@ module _ (b : HubConfig) (E : Log) (e : Entry) (old : State) (r : RoomOf old) (h
       → StandsFor b (e ∷ E) (with_room r.index r.name h old)
   room_changes leaves quiet room homes watches here =
       room_and_wills_change old.wills (stands.wills
-      ∙ sym leaves) stands.willing quiet room homes watches here
+      ∙ sym leaves) stands.housed quiet room homes watches here
 
   -- if only one session differs, and no documents do
   pub session_changes : left (e ∷ E) ≡ left E → beginning (e ∷ E) r.name ≡ beginning E r.name

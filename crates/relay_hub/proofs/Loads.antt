@@ -1,9 +1,11 @@
 -- The weight of what waits in an outbox, after one more patch is added or the front is drawn, and
 -- in several of them.
-use Rattle.std.proofs.Common.{◌≡◌, ◌≢◌, ℕ, ◌+◌, ◌<◌, Bool, true, false, List, [], ◌∷◌, ◌++◌, Some, length, take, slice_get, sum_by, refl, sym, ◌∙◌, ap, arith}
+use Rattle.std.proofs.Common.{◌≡◌, ◌≢◌, ℕ, ◌+◌, ◌<◌, Bool, true, false, List, [], ◌∷◌, ◌++◌, Some}
+use Rattle.std.proofs.Common.{length, take, slice_get, sum_by, refl, sym, ◌∙◌, ap, arith}
 use Rattle.std.proofs.lemmas.List.Sums.{sum_by_more}
 use Rattle.std.proofs.lemmas.Option.{slice_get_within, get_or_from_slice_get}
-use Rattle.relay_outbox.specs.Outbox.{Contents, reply, patch, snapshot, nothing, first_of, rest_of, front_of, without_front}
+use Rattle.relay_outbox.specs.Outbox.{Contents, reply, patch, snapshot, nothing, first_of, rest_of}
+use Rattle.relay_outbox.specs.Outbox.{front_of, without_front}
 use Rattle.relay_patch.specs.Weight.{ops_weight}
 use Rattle.relay_patch.specs.declared.op.Op.{Op}
 use Rattle.relay_proto.specs.declared.reply.Reply.{Reply}

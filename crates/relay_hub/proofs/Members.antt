@@ -1,6 +1,9 @@
 -- Each step keeps `IsHub`: session numbers are below the next one, and a session is in its own room
 -- alone, and once.
-use Rattle.std.proofs.Common.{◌≡◌, ◌≢◌, ℕ, ◌+◌, ◌<◌, ◌≤◌, ◌==◌, ◌⊎◌, inl, inr, Bool, true, false, List, [], ◌∷◌, ◌++◌, length, Option, Some, None, Result, Ok, Err, refl, sym, ◌∙◌, ap, subst, arith, length-append, slice_get, slice_set, not, nat_le, nat_lt, IsSome, if◌then◌else◌}
+use Rattle.std.proofs.Common.{◌≡◌, ◌≢◌, ℕ, ◌+◌, ◌<◌, ◌≤◌, ◌==◌, ◌⊎◌, inl, inr, Bool, true, false}
+use Rattle.std.proofs.Common.{List, [], ◌∷◌, ◌++◌, length, Option, Some, None, Result, Ok, Err}
+use Rattle.std.proofs.Common.{refl, sym, ◌∙◌, ap, subst, arith, length-append, slice_get, slice_set}
+use Rattle.std.proofs.Common.{not, nat_le, nat_lt, IsSome, if◌then◌else◌}
 use Rattle.std.proofs.lemmas.Bool.Decides.{eqb_tells, nat_tests}
 use Rattle.std.proofs.lemmas.List.{length-set}
 use Rattle.std.proofs.lemmas.Option.{slice_get_within}
@@ -13,7 +16,8 @@ use Rattle.relay_access.specs.declared.access.Access.{Access}
 use Rattle.relay_proto.specs.declared.refusal.Refusal.{Refusal}
 use Rattle.relay_proto.specs.declared.reply.Reply.TheVariants.{Done}
 use Rattle.relay_proto.specs.declared.request.Request.{Request}
-use Rattle.relay_proto.specs.declared.request.Request.TheVariants.{Edit, Will, Watch, Resume, Unwatch}
+use Rattle.relay_proto.specs.declared.request.Request.TheVariants.{Edit, Will, Watch, Resume}
+use Rattle.relay_proto.specs.declared.request.Request.TheVariants.{Unwatch}
 use Rattle.relay_room.specs.CatchUp.{caught_up_within}
 use Rattle.relay_room.specs.Edit.{edited}
 use Rattle.relay_room.specs.Room.{begun, revision}
@@ -23,20 +27,31 @@ use Rattle.relay_tree.specs.Document.{Document, null}
 use Rattle.relay_limits.specs.declared.TheConstants.{MAX_COUNT}
 use Rattle.relay_hub.specs.Admitted.{admitted}
 use Rattle.relay_hub.specs.Refusal.{refused, future_refusal}
-use Rattle.relay_hub.specs.Session.{Session, replied, newcomer, leaves_will, watches, unwatches, resumes, drawn}
-use Rattle.relay_hub.specs.State.{RoomSessions, room_sessions, State, EachOnce, Home, RoomOf, IsHub, HaveRooms, index_of, index_named, vacant_in, is_crowded, session_in}
-use Rattle.relay_hub.specs.Step.{OnlyAt, EditServed, WillServed, ResumeServed, Serves, Receives, Draws, with_room, with_wills, InRoom, AtIndex, open_fault, Founds, Enters, Opens, left_of, Closes, ClosesIn, ClosesInRoom, ClosesAt, DoesWill, forget_fault, Forgets, Step}
+use Rattle.relay_hub.specs.Session.{Session, replied, newcomer, leaves_will, watches, unwatches}
+use Rattle.relay_hub.specs.Session.{resumes, drawn}
+use Rattle.relay_hub.specs.State.{RoomSessions, room_sessions, State, EachOnce, Home, RoomOf, IsHub}
+use Rattle.relay_hub.specs.State.{HaveRooms, index_of, index_named, vacant_in, is_crowded}
+use Rattle.relay_hub.specs.State.{session_in}
+use Rattle.relay_hub.specs.Step.{OnlyAt, EditServed, WillServed, ResumeServed, Serves, Receives}
+use Rattle.relay_hub.specs.Step.{Draws, with_room, with_wills, InRoom, AtIndex, open_fault, Founds}
+use Rattle.relay_hub.specs.Step.{Enters, Opens, left_of, Closes, ClosesIn, ClosesInRoom, ClosesAt}
+use Rattle.relay_hub.specs.Step.{DoesWill, forget_fault, Forgets, Step}
 use Rattle.relay_hub.specs.declared.config.HubConfig.{HubConfig}
 use Rattle.relay_hub.specs.declared.event.Answer.{Answer}
-use Rattle.relay_hub.specs.declared.event.Answer.TheVariants.{Opened, NotOpened, Heard, Drawn, Closed, WillDone, NoWill, Forgotten, NotForgotten, NoSession}
+use Rattle.relay_hub.specs.declared.event.Answer.TheVariants.{Opened, NotOpened, Heard, Drawn}
+use Rattle.relay_hub.specs.declared.event.Answer.TheVariants.{Closed, WillDone, NoWill, Forgotten}
+use Rattle.relay_hub.specs.declared.event.Answer.TheVariants.{NotForgotten, NoSession}
 use Rattle.relay_hub.specs.declared.event.Event.{Event}
-use Rattle.relay_hub.specs.declared.event.Event.TheVariants.{Open, Receive, Draw, Close, DoWill, Forget}
+use Rattle.relay_hub.specs.declared.event.Event.TheVariants.{Open, Receive, Draw, Close, DoWill}
+use Rattle.relay_hub.specs.declared.event.Event.TheVariants.{Forget}
 use Rattle.relay_hub.specs.declared.event.Opening.{Opening}
-use Rattle.relay_hub.specs.declared.fault.OpenFault.TheVariants.{RoomName, RoomsFull, SessionsFull, Exhausted}
+use Rattle.relay_hub.specs.declared.fault.OpenFault.TheVariants.{RoomName, RoomsFull, SessionsFull}
+use Rattle.relay_hub.specs.declared.fault.OpenFault.TheVariants.{Exhausted}
 use Rattle.relay_hub.specs.declared.will.Will.{Will as WillLeft}
 use Rattle.relay_hub.specs.declared.event.Heard.TheVariants.{Answered, Busy}
 use Rattle.relay_hub.proofs.Cases.{by_number, by_finding}
-use Rattle.relay_hub.proofs.Lists.{slice_set_cases, append_cases, slice_get-set, slice_get-set_other, slice_get-earlier, slice_get-last}
+use Rattle.relay_hub.proofs.Lists.{slice_set_cases, append_cases, slice_get-set}
+use Rattle.relay_hub.proofs.Lists.{slice_get-set_other, slice_get-earlier, slice_get-last}
 use Rattle.relay_hub.proofs.Floors.{floor_count}
 use Rattle.relay_hub.proofs.Forgetting.{idle, absent, fault_is}
 use Rattle.relay_hub.proofs.Rooms.{Vacant, vacant}

@@ -1,5 +1,6 @@
 -- Notifying the sessions of a room, one after the other.
-use Rattle.std.proofs.Common.{◌≡◌, ℕ, ◌==◌, Bool, true, false, List, [], ◌∷◌, Option, Some, None, refl, sym, ap}
+use Rattle.std.proofs.Common.{◌≡◌, ℕ, ◌==◌, Bool, true, false, List, [], ◌∷◌, Option, Some, None}
+use Rattle.std.proofs.Common.{refl, sym, ap}
 use Rattle.std.specs.Prelude.{⊤, IsSome, if◌then◌else◌}
 use Rattle.relay_patch.specs.declared.change.Change.{Change}
 use Rattle.relay_view.specs.View.{View}

@@ -1,5 +1,7 @@
 -- Opening a session: the reasons not to, and the room that it enters.
-use Rattle.std.proofs.Common.{◌≡◌, ℕ, ◌+◌, ◌<◌, ◌≤◌, true, false, List, [], ◌∷◌, Option, Some, None, subst, refl, ◌∙◌, ap, length, arith, cond, position, bytes_eq, string_bytes, not, nat_le, nat_lt}
+use Rattle.std.proofs.Common.{◌≡◌, ℕ, ◌+◌, ◌<◌, ◌≤◌, true, false, List, [], ◌∷◌, Option, Some, None}
+use Rattle.std.proofs.Common.{subst, refl, ◌∙◌, ap, length, arith, cond, position, bytes_eq}
+use Rattle.std.proofs.Common.{string_bytes, not, nat_le, nat_lt}
 use Rattle.std.specs.List.{position_or_len}
 use Rattle.std.specs.Map.{keys_of, lookup}
 use Rattle.std.specs.String.{string_eq}
@@ -15,7 +17,8 @@ use Rattle.relay_tree.specs.Document.{null}
 use Rattle.relay_limits.specs.declared.TheConstants.{MAX_COUNT}
 use Rattle.relay_hub.specs.Representation.{named, rooms_of}
 use Rattle.relay_hub.specs.Session.{newcomer}
-use Rattle.relay_hub.specs.State.{RoomSessions, room_sessions, State, index_named, is_crowded, vacant_in}
+use Rattle.relay_hub.specs.State.{RoomSessions, room_sessions, State, index_named, is_crowded}
+use Rattle.relay_hub.specs.State.{vacant_in}
 use Rattle.relay_hub.specs.Step.{open_fault, Founds, EntersRooms, Enters}
 use Rattle.relay_hub.specs.declared.event.Opening.{Opening}
 use Rattle.relay_hub.specs.declared.fault.OpenFault.TheVariants.{RoomsFull, SessionsFull, Exhausted}

@@ -1,5 +1,9 @@
 -- What the maps in the code mean for the hub that contracts see.
-use Rattle.std.proofs.Common.{◌≡◌, ◌≢◌, ℕ, ◌+◌, true, arith, drop, remove, Result, Ok, Err, IfOk, IfErr, OnOk, OnErr, List, [], ◌∷◌, ◌++◌, Option, Some, None, IsSome, refl, sym, ◌∙◌, ap, subst, map, length, zero, suc, slice_get, slice_set, nat_lt, option_map, string_bytes, nat_eq, ◌==◌, if◌then◌else◌}
+use Rattle.std.proofs.Common.{◌≡◌, ◌≢◌, ℕ, ◌+◌, true, arith, drop, remove, Result, Ok, Err, IfOk}
+use Rattle.std.proofs.Common.{IfErr, OnOk, OnErr, List, [], ◌∷◌, ◌++◌, Option, Some, None, IsSome}
+use Rattle.std.proofs.Common.{refl, sym, ◌∙◌, ap, subst, map, length, zero, suc, slice_get}
+use Rattle.std.proofs.Common.{slice_set, nat_lt, option_map, string_bytes, nat_eq, ◌==◌}
+use Rattle.std.proofs.Common.{if◌then◌else◌}
 use Rattle.std.specs.Map.{lookup, values_of}
 use Rattle.std.specs.declared.string.String.{String}
 use Rattle.std.proofs.lemmas.Bool.Decides.{nat_tests}
@@ -12,8 +16,10 @@ use Rattle.relay_tree.specs.Document.{null}
 use Rattle.relay_hub.specs.Call.{StepIf, ReceivesIf, DrawsIf, HasSpace, forgetting}
 use Rattle.relay_hub.specs.Representation.{named, hub_of}
 use Rattle.relay_hub.specs.Session.{Session}
-use Rattle.relay_hub.specs.State.{RoomSessions, room_sessions, State, IsHub, index_of, index_named, session_in, session_of}
-use Rattle.relay_hub.specs.Step.{ChangesOnly, WillServed, with_room, left_of, DoesWill, anew_fault, forget_fault, Step}
+use Rattle.relay_hub.specs.State.{RoomSessions, room_sessions, State, IsHub, index_of, index_named}
+use Rattle.relay_hub.specs.State.{session_in, session_of}
+use Rattle.relay_hub.specs.Step.{ChangesOnly, WillServed, with_room, left_of, DoesWill, anew_fault}
+use Rattle.relay_hub.specs.Step.{forget_fault, Step}
 use Rattle.relay_hub.specs.Queries.{room_and_session, may_hear}
 use Rattle.relay_hub.specs.declared.event.Answer.{Answer}
 use Rattle.relay_hub.specs.declared.event.Answer.TheVariants as answer

@@ -1,6 +1,8 @@
 -- Sessions whose numbers rise: each number occurs once, they still rise when sessions are changed,
 -- added and removed, and a session is found by binary search.
-use Rattle.std.proofs.Common.{◌≡◌, ◌≢◌, ℕ, zero, suc, ◌+◌, ◌<◌, ◌≤◌, ◌==◌, Bool, true, false, not, List, [], ◌∷◌, ◌++◌, length, get_or, Some, None, refl, sym, ap, subst, arith, inl, inr, filter, nat_lt, position, slice_set, if◌then◌else◌}
+use Rattle.std.proofs.Common.{◌≡◌, ◌≢◌, ℕ, zero, suc, ◌+◌, ◌<◌, ◌≤◌, ◌==◌, Bool, true, false, not}
+use Rattle.std.proofs.Common.{List, [], ◌∷◌, ◌++◌, length, get_or, Some, None, refl, sym, ap, subst}
+use Rattle.std.proofs.Common.{arith, inl, inr, filter, nat_lt, position, slice_set, if◌then◌else◌}
 use Rattle.std.specs.List.{position_or_len, AllPairs}
 use Rattle.std.specs.List.Sorted.{IsStrictlyIncreasing, IsPartitionPoint, IsPartitionedBy}
 use Rattle.std.proofs.lemmas.Bool.{cases_lt}

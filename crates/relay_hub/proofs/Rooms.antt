@@ -1,5 +1,9 @@
 -- Rooms and their documents, distinguished by name.
-use Rattle.std.proofs.Common.{◌≡◌, ◌≢◌, ℕ, zero, suc, ◌+◌, ◌-◌, ◌<◌, ◌≤◌, ◌==◌, ◌&&◌, inl, inr, nat_le, nat_lt, position, arith, Bool, true, false, List, [], ◌∷◌, ◌++◌, length, length-append, replicate, get_or, Option, Some, None, refl, sym, ◌∙◌, ap, subst, slice_get, slice_set, bytes_eq, if◌then◌else◌}
+use Rattle.std.proofs.Common.{◌≡◌, ◌≢◌, ℕ, zero, suc, ◌+◌, ◌-◌, ◌<◌, ◌≤◌, ◌==◌, ◌&&◌, inl, inr}
+use Rattle.std.proofs.Common.{nat_le, nat_lt, position, arith, Bool, true, false, List, [], ◌∷◌}
+use Rattle.std.proofs.Common.{◌++◌, length, length-append, replicate, get_or, Option, Some, None}
+use Rattle.std.proofs.Common.{refl, sym, ◌∙◌, ap, subst, slice_get, slice_set, bytes_eq}
+use Rattle.std.proofs.Common.{if◌then◌else◌}
 use Rattle.std.proofs.lemmas.Bool.Decides.{nat_tests}
 use Rattle.std.proofs.lemmas.List.{append-nil, length-replicate}
 use Rattle.std.proofs.lemmas.List.Quantifiers.{position-Some}
@@ -12,10 +16,13 @@ use Rattle.relay_room.specs.Room.{revision}
 use Rattle.relay_tree.specs.Document.{Document, null}
 use Rattle.relay_limits.specs.declared.TheConstants.{MAX_COUNT}
 use Rattle.relay_hub.specs.Admitted.{permitted}
-use Rattle.relay_hub.specs.Log.{Log, Stay, Bequest, stay, entry, home, left, document_left, documents, documents_after, document_added, extended, requested, reaching, beginning, beginning_after}
+use Rattle.relay_hub.specs.Log.{Log, Stay, Bequest, stay, entry, home, left, document_left}
+use Rattle.relay_hub.specs.Log.{documents, documents_after, document_added, extended, requested}
+use Rattle.relay_hub.specs.Log.{reaching, beginning, beginning_after}
 use Rattle.relay_hub.specs.Stands.{MayBegin}
 use Rattle.relay_hub.specs.Session.{Session}
-use Rattle.relay_hub.specs.State.{RoomSessions, index_named, is_null, is_evictable, above, vacant_index}
+use Rattle.relay_hub.specs.State.{RoomSessions, index_named, is_null, is_evictable, above}
+use Rattle.relay_hub.specs.State.{vacant_index}
 use Rattle.relay_hub.specs.declared.event.Answer.{Answer}
 use Rattle.relay_hub.specs.declared.event.Answer.TheVariants.{Opened, Heard, WillDone, Forgotten}
 use Rattle.relay_hub.specs.declared.event.Event.{Event}
@@ -23,7 +30,8 @@ use Rattle.relay_hub.specs.declared.event.Event.TheVariants.{Open, Receive, DoWi
 use Rattle.relay_hub.specs.declared.event.Opening.{Opening}
 use Rattle.relay_hub.specs.declared.will.Will.{Will}
 use Rattle.relay_hub.specs.declared.event.Heard.TheVariants.{Answered}
-use Rattle.relay_hub.proofs.Lists.{position_set, position_within, position_apart, position_earlier, position_last, position_written, slice_get-earlier}
+use Rattle.relay_hub.proofs.Lists.{position_set, position_within, position_apart, position_earlier}
+use Rattle.relay_hub.proofs.Lists.{position_last, position_written, slice_get-earlier}
 
 -- Names.
 

@@ -1,6 +1,9 @@
 -- Requests, and what they leave of the hub: an accepted edit adds a document to its room and
 -- notifies the watchers; any other request is answered, and leaves the documents unchanged.
-use Rattle.std.proofs.Common.{◌≡◌, ◌≢◌, ℕ, ◌<◌, ◌≤◌, ◌==◌, inl, inr, Bool, true, false, List, [], ◌∷◌, ◌++◌, length, get_or, Option, Some, None, option_map, Result, Ok, Err, refl, sym, ◌∙◌, ap, arith, slice_get, nat_lt, nat_le, if◌then◌else◌}
+use Rattle.std.proofs.Common.{◌≡◌, ◌≢◌, ℕ, ◌<◌, ◌≤◌, ◌==◌, inl, inr, Bool, true, false, List, []}
+use Rattle.std.proofs.Common.{◌∷◌, ◌++◌, length, get_or, Option, Some, None, option_map, Result, Ok}
+use Rattle.std.proofs.Common.{Err, refl, sym, ◌∙◌, ap, arith, slice_get, nat_lt, nat_le}
+use Rattle.std.proofs.Common.{if◌then◌else◌}
 use Rattle.std.specs.Result.{result_ok}
 use Rattle.std.proofs.lemmas.Bool.{cases_lt}
 use Rattle.std.proofs.lemmas.Bool.Decides.{nat_tests}
@@ -15,9 +18,11 @@ use Rattle.relay_proto.specs.Written.{IsCount, HasCounts}
 use Rattle.relay_proto.specs.declared.refusal.Refusal.{Refusal}
 use Rattle.relay_proto.specs.declared.reply.ResumeOutcome.TheVariants as how
 use Rattle.relay_proto.specs.declared.reply.Reply.{Reply}
-use Rattle.relay_proto.specs.declared.reply.Reply.TheVariants.{Done, Willing, Watching, Resumed, Unwatched}
+use Rattle.relay_proto.specs.declared.reply.Reply.TheVariants.{Done, Willing, Watching, Resumed}
+use Rattle.relay_proto.specs.declared.reply.Reply.TheVariants.{Unwatched}
 use Rattle.relay_proto.specs.declared.request.Request.{Request}
-use Rattle.relay_proto.specs.declared.request.Request.TheVariants.{Edit, Will, Watch, Resume, Unwatch}
+use Rattle.relay_proto.specs.declared.request.Request.TheVariants.{Edit, Will, Watch, Resume}
+use Rattle.relay_proto.specs.declared.request.Request.TheVariants.{Unwatch}
 use Rattle.relay_room.specs.CatchUp.{caught_up_within, LeadsOn, Fits}
 use Rattle.relay_room.specs.Edit.{edited}
 use Rattle.relay_room.specs.Room.{State as Room, revision}
@@ -29,9 +34,12 @@ use Rattle.relay_tree.specs.Document.{Document, null}
 use Rattle.relay_tree.specs.declared.budget.Budget.{Budget}
 use Rattle.relay_view.specs.View.{View, view}
 use Rattle.relay_hub.specs.Admitted.{permitted, affordable, admitted}
-use Rattle.relay_hub.specs.Log.{Log, Watching as Watched, stay, willed, will_after, begun, entry, home, documents, beginning, requested, asked, asked_at_home, watching}
+use Rattle.relay_hub.specs.Log.{Log, Watching as Watched, stay, willed, will_after, begun, entry}
+use Rattle.relay_hub.specs.Log.{home, documents, beginning, requested, asked, asked_at_home}
+use Rattle.relay_hub.specs.Log.{watching}
 use Rattle.relay_hub.specs.Refusal.{refused, edit_refusal, future_refusal}
-use Rattle.relay_hub.specs.Session.{Session, session_with, with_will, replied, leaves_will, watches, unwatches, resumes}
+use Rattle.relay_hub.specs.Session.{Session, session_with, with_will, replied, leaves_will, watches}
+use Rattle.relay_hub.specs.Session.{unwatches, resumes}
 use Rattle.relay_hub.specs.Stands.{RoomStands, OutboxStands, WatchStands, SessionStands, StandsFor}
 use Rattle.relay_hub.specs.State.{RoomSessions, State, Home, session_in}
 use Rattle.relay_hub.specs.Step.{ChangesOnly, EditServed, ResumeServed, with_room}
@@ -40,7 +48,8 @@ use Rattle.relay_hub.specs.declared.event.Answer.TheVariants.{Heard}
 use Rattle.relay_hub.specs.declared.event.Event.TheVariants.{Receive}
 use Rattle.relay_hub.specs.declared.event.Heard.TheVariants.{Answered}
 use Rattle.relay_proto.proofs.Counts.{request_counts}
-use Rattle.relay_hub.proofs.Admissions.{admitted_sent, other_sent, refused_adds, refused_wills, refused_asks, refused_counts}
+use Rattle.relay_hub.proofs.Admissions.{admitted_sent, other_sent, refused_adds, refused_wills}
+use Rattle.relay_hub.proofs.Admissions.{refused_asks, refused_counts}
 use Rattle.relay_hub.proofs.Cases.{by_number}
 use Rattle.relay_hub.proofs.Documents.{goes_on_stands, trimmed_stands}
 use Rattle.relay_hub.proofs.Edits.{same_edit, notified_session}

@@ -1,5 +1,6 @@
 -- The effect of one request.
-use Rattle.std.proofs.Common.{◌≡◌, ℕ, ◌<◌, true, List, Some, Result, position, nat_le, refl, sym, ◌∙◌, subst, arith}
+use Rattle.std.proofs.Common.{◌≡◌, ℕ, ◌<◌, true, List, Some, Result, position, nat_le, refl, sym}
+use Rattle.std.proofs.Common.{◌∙◌, subst, arith}
 use Rattle.std.proofs.lemmas.Bool.Decides.{nat_tests}
 use Rattle.relay_view.specs.View.{View}
 use Rattle.relay_proto.specs.Request.{request_of_text}

@@ -1,5 +1,7 @@
 -- A hub that gives back what it can stays a hub, and stands for the same log.
-use Rattle.std.proofs.Common.{◌≡◌, ℕ, ◌+◌, ◌==◌, Bool, true, false, cond, not, List, [], ◌∷◌, map, Option, Some, None, refl, sym, ◌∙◌, ap, slice_get, option_map, option_and_then, bytes_eq, arith, if◌then◌else◌}
+use Rattle.std.proofs.Common.{◌≡◌, ℕ, ◌+◌, ◌==◌, Bool, true, false, cond, not, List, [], ◌∷◌, map}
+use Rattle.std.proofs.Common.{Option, Some, None, refl, sym, ◌∙◌, ap, slice_get, option_map}
+use Rattle.std.proofs.Common.{option_and_then, bytes_eq, arith, if◌then◌else◌}
 use Rattle.std.specs.List.{position_or_len}
 use Rattle.std.specs.Option.{option_map_or}
 use Rattle.std.proofs.lemmas.List.{length-map}
@@ -14,9 +16,12 @@ use Rattle.relay_tree.specs.declared.budget.Budget.{Budget}
 use Rattle.relay_tree.specs.declared.budget.Budget.TheVariants.{Unbounded}
 use Rattle.relay_hub.specs.Log.{Log, Watching, Stay, Bequest, home, documents, watching}
 use Rattle.relay_hub.specs.Session.{Session, with_outbox, later}
-use Rattle.relay_hub.specs.Shed.{shed_budget, fold_patches, shed_session, shed_room, shed_named, shed}
-use Rattle.relay_hub.specs.Stands.{RoomStands, OutboxStands, WatchStands, SessionStands, RoomSessionsStand, HomeStands, Follows, named_will, StandsFor}
-use Rattle.relay_hub.specs.State.{RoomSessions, State, EachOnce, IsHub, numbers, index_of, index_named, session_in}
+use Rattle.relay_hub.specs.Shed.{shed_budget, fold_patches, shed_session, shed_room, shed_named}
+use Rattle.relay_hub.specs.Shed.{shed}
+use Rattle.relay_hub.specs.Stands.{RoomStands, OutboxStands, WatchStands, SessionStands}
+use Rattle.relay_hub.specs.Stands.{RoomSessionsStand, HomeStands, Follows, named_will, StandsFor}
+use Rattle.relay_hub.specs.State.{RoomSessions, State, EachOnce, IsHub, numbers, index_of}
+use Rattle.relay_hub.specs.State.{index_named, session_in}
 use Rattle.relay_hub.specs.Watched.{IsIndexed}
 use Rattle.relay_hub.specs.declared.config.HubConfig.{HubConfig}
 use Rattle.relay_hub.specs.declared.will.Will.{Will}
@@ -264,9 +269,9 @@ module _ (b : HubConfig) (E : Log) (hub : State) (h : StandsFor b E hub) where
     others = λ name none. h.others name (sym (shed_names name budget hub.rooms) ∙ none);
     sessions = λ t. home_stands t (index_of hub t) (h.sessions t);
     wills = shed_wills hub.rooms budget hub.wills ∙ h.wills;
-    willing =
+    housed =
         have_more hub.rooms (map (shed_named budget) hub.rooms) hub.wills (omega (
           arith,
           length-map hub.rooms (shed_named budget),
-        )) h.willing;
+        )) h.housed;
   }

@@ -1,9 +1,11 @@
 -- The text that a room keeps of a snapshot stays that of its present one.
-use Rattle.std.proofs.Common.{◌≡◌, ℕ, Bool, true, false, ap, Option, Some, Result, Ok, Err, IfOk, OnErr, List, ◌==◌, nat_le, sym, subst, position}
+use Rattle.std.proofs.Common.{◌≡◌, ℕ, Bool, true, false, ap, Option, Some, Result, Ok, Err, IfOk}
+use Rattle.std.proofs.Common.{OnErr, List, ◌==◌, nat_le, sym, subst, position}
 use Rattle.std.specs.declared.alloc.AllocError.{AllocError}
 use Rattle.relay_proto.specs.declared.refusal.Refusal.{Refusal}
 use Rattle.relay_proto.specs.declared.request.Request.{Request}
-use Rattle.relay_proto.specs.declared.request.Request.TheVariants.{Edit, Will, Watch, Resume, Unwatch}
+use Rattle.relay_proto.specs.declared.request.Request.TheVariants.{Edit, Will, Watch, Resume}
+use Rattle.relay_proto.specs.declared.request.Request.TheVariants.{Unwatch}
 use Rattle.relay_room.specs.Room.{State as Room, revision}
 use Rattle.relay_view.specs.View.{View}
 use Rattle.relay_hub.specs.Session.{Session}

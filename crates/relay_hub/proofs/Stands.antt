@@ -1,10 +1,12 @@
 -- Each step keeps a hub standing for its log.
-use Rattle.std.proofs.Common.{◌≡◌, ℕ, ◌==◌, List, [], ◌∷◌, Option, Some, None, Result, Ok, Err, refl, sym, ap, subst, slice_get, nat_le}
+use Rattle.std.proofs.Common.{◌≡◌, ℕ, ◌==◌, List, [], ◌∷◌, Option, Some, None, Result, Ok, Err}
+use Rattle.std.proofs.Common.{refl, sym, ap, subst, slice_get, nat_le}
 use Rattle.relay_proto.proofs.Counts.{request_counts}
 use Rattle.relay_proto.specs.Request.{request_of_text}
 use Rattle.relay_proto.specs.declared.refusal.Refusal.{Refusal}
 use Rattle.relay_proto.specs.declared.request.Request.{Request}
-use Rattle.relay_proto.specs.declared.request.Request.TheVariants.{Edit, Will, Watch, Resume, Unwatch}
+use Rattle.relay_proto.specs.declared.request.Request.TheVariants.{Edit, Will, Watch, Resume}
+use Rattle.relay_proto.specs.declared.request.Request.TheVariants.{Unwatch}
 use Rattle.relay_room.specs.Edit.{edited}
 use Rattle.relay_room.specs.Room.{revision}
 use Rattle.relay_hub.specs.Call.{StepIf, logged, Runs, stops, steps, followed}
@@ -13,12 +15,16 @@ use Rattle.relay_hub.specs.Admitted.{admitted}
 use Rattle.relay_hub.specs.Session.{Session}
 use Rattle.relay_hub.specs.Stands.{StandsFor}
 use Rattle.relay_hub.specs.State.{RoomSessions, State, RoomOf, Home, index_of, session_in}
-use Rattle.relay_hub.specs.Step.{Serves, Receives, Draws, with_room, InRoom, AtIndex, ClosesIn, ClosesInRoom, ClosesAt, Step}
+use Rattle.relay_hub.specs.Step.{Serves, Receives, Draws, with_room, InRoom, AtIndex, ClosesIn}
+use Rattle.relay_hub.specs.Step.{ClosesInRoom, ClosesAt, Step}
 use Rattle.relay_hub.specs.declared.config.HubConfig.{HubConfig}
 use Rattle.relay_hub.specs.declared.event.Answer.{Answer}
-use Rattle.relay_hub.specs.declared.event.Answer.TheVariants.{Opened, NotOpened, Heard, Drawn, Closed, Forgotten, NotForgotten, NoSession}
+use Rattle.relay_hub.specs.declared.event.Answer.TheVariants.{Opened, NotOpened, Heard, Drawn}
+use Rattle.relay_hub.specs.declared.event.Answer.TheVariants.{Closed, Forgotten, NotForgotten}
+use Rattle.relay_hub.specs.declared.event.Answer.TheVariants.{NoSession}
 use Rattle.relay_hub.specs.declared.event.Event.{Event}
-use Rattle.relay_hub.specs.declared.event.Event.TheVariants.{Open, Receive, Draw, Close, DoWill, Forget}
+use Rattle.relay_hub.specs.declared.event.Event.TheVariants.{Open, Receive, Draw, Close, DoWill}
+use Rattle.relay_hub.specs.declared.event.Event.TheVariants.{Forget}
 use Rattle.relay_hub.specs.declared.event.Heard.TheVariants.{Answered, Busy}
 use Rattle.relay_hub.proofs.Admissions.{admitted_sent, other_sent}
 use Rattle.relay_hub.proofs.Counts.{edit_refusal_counts}
@@ -28,7 +34,8 @@ use Rattle.relay_hub.proofs.Draws.{draw_stands}
 use Rattle.relay_hub.proofs.Forgetting.{forget_stands}
 use Rattle.relay_hub.proofs.Frames.{Quiet, unaffected, session_stands}
 use Rattle.relay_hub.proofs.Lists.{slice_set_same}
-use Rattle.relay_hub.proofs.Served.{served_refusal, served_will, served_watch, served_unwatch, served_resume, served_edit}
+use Rattle.relay_hub.proofs.Served.{served_refusal, served_will, served_watch, served_unwatch}
+use Rattle.relay_hub.proofs.Served.{served_resume, served_edit}
 
 -- What happens in the room of a session.
 

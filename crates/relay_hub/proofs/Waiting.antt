@@ -1,5 +1,6 @@
 -- What waits in an outbox that changes: cases, and that it round-trips.
-use Rattle.std.proofs.Common.{◌≡◌, ◌+◌, is_some, ℕ, Bool, true, false, List, [], ◌∷◌, ◌++◌, length, Option, refl, nat_lt, if◌then◌else◌}
+use Rattle.std.proofs.Common.{◌≡◌, ◌+◌, is_some, ℕ, Bool, true, false, List, [], ◌∷◌, ◌++◌, length}
+use Rattle.std.proofs.Common.{Option, refl, nat_lt, if◌then◌else◌}
 use Rattle.std.specs.List.{AllByRecursion}
 use Rattle.relay_tree.proofs.Writing.{all_more}
 use Rattle.relay_outbox.specs.Outbox.{Contents, contents, folded, cleared, with_patch, rest_of}
@@ -13,7 +14,8 @@ use Rattle.relay_proto.specs.declared.reply.Reply.{Reply}
 use Rattle.relay_room.specs.CatchUp.{Fits}
 use Rattle.relay_room.specs.declared.catch_up.CatchUp.{CatchUp}
 use Rattle.relay_room.specs.declared.catch_up.CatchUp.TheVariants as how
-use Rattle.relay_hub.specs.Session.{Session, session_with, with_outbox, with_patch_within, patches_weight, replied, led_outbox, notified_outbox, drawn}
+use Rattle.relay_hub.specs.Session.{Session, session_with, with_outbox, with_patch_within}
+use Rattle.relay_hub.specs.Session.{patches_weight, replied, led_outbox, notified_outbox, drawn}
 use Rattle.relay_hub.specs.Stands.{OutboxStands, PatchFits}
 
 -- an outbox to which a patch is added is unchanged, has the patch last, or folds

@@ -1,5 +1,7 @@
 -- What a hub that stands for its log provides for its watchers, and what a refused edit changes.
-use Rattle.std.proofs.Common.{◌≡◌, ◌≢◌, ℕ, zero, suc, ◌==◌, true, false, List, [], ◌∷◌, ◌++◌, map, Option, Some, None, option_and_then, Ok, Err, refl, sym, ap, subst, arith, inl, inr, slice_get, slice_set}
+use Rattle.std.proofs.Common.{◌≡◌, ◌≢◌, ℕ, zero, suc, ◌==◌, true, false, List, [], ◌∷◌, ◌++◌, map}
+use Rattle.std.proofs.Common.{Option, Some, None, option_and_then, Ok, Err, refl, sym, ap, subst}
+use Rattle.std.proofs.Common.{arith, inl, inr, slice_get, slice_set}
 use Rattle.std.proofs.lemmas.Bool.Decides.{eqb_tells, nat_tests}
 use Rattle.relay_patch.specs.declared.op.Op.{Op}
 use Rattle.relay_view.specs.View.{View}
@@ -16,9 +18,12 @@ use Rattle.relay_hub.specs.Log.{Log, Watching, documents, watching}
 use Rattle.relay_hub.specs.Admitted.{admitted}
 use Rattle.relay_hub.specs.Refusal.{refused, edit_refusal}
 use Rattle.relay_hub.specs.Session.{Session, replied, later}
-use Rattle.relay_hub.specs.Stands.{IsAtNamed, EachLeads, HoldsPresent, Follows, WatchStands, StandsFor}
-use Rattle.relay_hub.specs.State.{RoomSessions, State, RoomOf, Home, index_of, home_of, session_in, session_of, without_sessions}
-use Rattle.relay_hub.specs.Step.{OnlyAt, ChangesOnly, EditServed, Serves, Receives, with_room, InRoom, Step}
+use Rattle.relay_hub.specs.Stands.{IsAtNamed, EachLeads, HoldsPresent, Follows, WatchStands}
+use Rattle.relay_hub.specs.Stands.{StandsFor}
+use Rattle.relay_hub.specs.State.{RoomSessions, State, RoomOf, Home, index_of, home_of, session_in}
+use Rattle.relay_hub.specs.State.{session_of, without_sessions}
+use Rattle.relay_hub.specs.Step.{OnlyAt, ChangesOnly, EditServed, Serves, Receives, with_room}
+use Rattle.relay_hub.specs.Step.{InRoom, Step}
 use Rattle.relay_hub.specs.Queries.{LeavesNoTrace}
 use Rattle.relay_hub.specs.declared.config.HubConfig.{HubConfig}
 use Rattle.relay_hub.specs.declared.event.Answer.TheVariants.{Heard}

@@ -1,5 +1,6 @@
 -- Which requests a hub serves. The others are refused before anything of the room is looked at.
-use Rattle.std.specs.Prelude.{ℕ, ◌+◌, Bool, true, false, if◌then◌else◌, Option, Some, None, [], ◌∷◌, Result, Ok, Err}
+use Rattle.std.specs.Prelude.{ℕ, ◌+◌, Bool, true, false, if◌then◌else◌, Option, Some, None, [], ◌∷◌}
+use Rattle.std.specs.Prelude.{Result, Ok, Err}
 use Rattle.std.specs.Option.{option_map_or}
 use Rattle.relay_pointer.specs.Weight.{path_weight}
 use Rattle.relay_access.specs.declared.access.Access.{Access}

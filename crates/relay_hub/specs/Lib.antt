@@ -1,4 +1,5 @@
 pub mod Config
+pub mod Counts
 pub mod Refusal
 pub mod Admitted
 pub mod Text

@@ -1,7 +1,9 @@
 -- What follows from a log: the documents of each room, which sessions are open in which room, what
 -- they may do there and what will they left, what each session watches and which messages it
 -- received. A log has its newest entry first, so each definition says what one more entry changes.
-use Rattle.std.specs.Prelude.{ℕ, ◌+◌, ◌-◌, ◌==◌, Bool, false, ◌||◌, List, [], ◌∷◌, ◌++◌, Option, Some, None, option_map, Result, Ok, drop, length, replicate, nat_le, slice_get, unwrap_or, bytes_eq, ◌&&◌, if◌then◌else◌}
+use Rattle.std.specs.Prelude.{ℕ, ◌+◌, ◌-◌, ◌==◌, Bool, false, ◌||◌, List, [], ◌∷◌, ◌++◌, Option}
+use Rattle.std.specs.Prelude.{Some, None, option_map, Result, Ok, drop, length, replicate, nat_le}
+use Rattle.std.specs.Prelude.{slice_get, unwrap_or, bytes_eq, ◌&&◌, if◌then◌else◌}
 use Rattle.std.specs.Result.{result_ok}
 use Rattle.relay_tree.specs.Document.{Document, null}
 use Rattle.relay_patch.specs.declared.op.Op.{Op}
@@ -13,15 +15,18 @@ use Rattle.relay_proto.specs.declared.message.Message.{Message}
 use Rattle.relay_proto.specs.declared.message.Message.TheVariants as message
 use Rattle.relay_proto.specs.declared.refusal.Refusal.{Refusal}
 use Rattle.relay_proto.specs.declared.request.Request.{Request}
-use Rattle.relay_proto.specs.declared.request.Request.TheVariants.{Edit, Will, Watch, Resume, Unwatch}
+use Rattle.relay_proto.specs.declared.request.Request.TheVariants.{Edit, Will, Watch, Resume}
+use Rattle.relay_proto.specs.declared.request.Request.TheVariants.{Unwatch}
 use Rattle.relay_room.specs.Edit.{edited_at}
 use Rattle.relay_view.specs.View.{View, view}
 use Rattle.relay_hub.specs.Admitted.{permitted, affordable}
 use Rattle.relay_hub.specs.declared.config.HubConfig.{HubConfig}
 use Rattle.relay_hub.specs.declared.event.Answer.{Answer}
-use Rattle.relay_hub.specs.declared.event.Answer.TheVariants.{Opened, Heard, Drawn, Closed, WillDone, Forgotten}
+use Rattle.relay_hub.specs.declared.event.Answer.TheVariants.{Opened, Heard, Drawn, Closed}
+use Rattle.relay_hub.specs.declared.event.Answer.TheVariants.{WillDone, Forgotten}
 use Rattle.relay_hub.specs.declared.event.Event.{Event}
-use Rattle.relay_hub.specs.declared.event.Event.TheVariants.{Open, Receive, Draw, Close, DoWill, Forget}
+use Rattle.relay_hub.specs.declared.event.Event.TheVariants.{Open, Receive, Draw, Close, DoWill}
+use Rattle.relay_hub.specs.declared.event.Event.TheVariants.{Forget}
 use Rattle.relay_hub.specs.declared.event.Heard.TheVariants.{Answered}
 
 -- an event and its answer. A call that ran out of memory changed nothing, and has no entry

@@ -1,12 +1,14 @@
 -- When a call of a hub may report that memory ran out: only if it would serve the event otherwise.
-use Rattle.std.specs.Prelude.{◌≡◌, ⊤, ◌<◌, length, List, [], ◌∷◌, None, option_map, slice_get, IfSome, IsSomeAnd, IsTrue}
+use Rattle.std.specs.Prelude.{◌≡◌, ⊤, ◌<◌, length, List, [], ◌∷◌, None, option_map, slice_get}
+use Rattle.std.specs.Prelude.{IfSome, IsSomeAnd, IsTrue}
 use Rattle.relay_hub.specs.Queries.{may_hear}
 use Rattle.relay_hub.specs.Session.{waiting}
 use Rattle.relay_hub.specs.State.{State, session_of}
 use Rattle.relay_hub.specs.Step.{open_fault, forget_fault}
 use Rattle.relay_hub.specs.declared.event.Answer.{Answer}
 use Rattle.relay_hub.specs.declared.event.Event.{Event}
-use Rattle.relay_hub.specs.declared.event.Event.TheVariants.{Open, Receive, Draw, Close, DoWill, Forget}
+use Rattle.relay_hub.specs.declared.event.Event.TheVariants.{Open, Receive, Draw, Close, DoWill}
+use Rattle.relay_hub.specs.declared.event.Event.TheVariants.{Forget}
 
 -- an event for which memory may be refused; a close allocates nothing
 abbrev pub TakesMemory : State → Event → Type 0

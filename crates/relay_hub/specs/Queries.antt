@@ -1,7 +1,9 @@
 -- What a hub returns for a session and of all sessions, when no hub can be made, and what a refused
 -- edit changes.
-use Rattle.std.specs.Prelude.{ℕ, ◌≡◌, ◌≢◌, map, ◌<◌, ◌⊎◌, Bool, false, length, nat_lt, sum_by, Option, Some, None, option_map, option_and_then, List, Ok, Err}
-use Rattle.relay_limits.specs.declared.TheConstants.{MAX_REVISIONS, MAX_WAITING_PATCHES, MAX_COUNT, MAX_ROOMS, MAX_SESSIONS}
+use Rattle.std.specs.Prelude.{ℕ, ◌≡◌, ◌≢◌, map, ◌<◌, ◌⊎◌, Bool, false, length, nat_lt, sum_by}
+use Rattle.std.specs.Prelude.{Option, Some, None, option_map, option_and_then, List, Ok, Err}
+use Rattle.relay_limits.specs.declared.TheConstants.{MAX_REVISIONS, MAX_WAITING_PATCHES, MAX_COUNT}
+use Rattle.relay_limits.specs.declared.TheConstants.{MAX_ROOMS, MAX_SESSIONS}
 use Rattle.relay_outbox.specs.declared.outbox.TheConstants.{MAX_REPLIES}
 use Rattle.relay_patch.specs.declared.op.Op.{Op}
 use Rattle.relay_proto.specs.Request.{request_of_text}
@@ -18,7 +20,8 @@ use Rattle.relay_hub.specs.Admitted.{admitted}
 use Rattle.relay_hub.specs.Load.{bounded_weight}
 use Rattle.relay_hub.specs.Refusal.{refused, edit_refusal}
 use Rattle.relay_hub.specs.Session.{Session, replied}
-use Rattle.relay_hub.specs.State.{RoomSessions, State, home_of, session_in, session_of, without_sessions}
+use Rattle.relay_hub.specs.State.{RoomSessions, State, home_of, session_in, session_of}
+use Rattle.relay_hub.specs.State.{without_sessions}
 
 -- one of the numbers of a configuration is no count, or out of its range
 abbrev pub BadLimits : HubConfig → Type 0
@@ -50,7 +53,7 @@ truth hub s =
     option_and_then (λ home.
     option_map (shown home.1.room) (session_in home.1.sessions s)) (home_of hub s)
 
--- what the patches weigh that wait for the sessions of a room, as far as that is bounded
+-- what the patches weigh that wait for the sessions of a room; 0 if no bound was set
 abbrev pub sessions_weight : List Session → ℕ
 sessions_weight sessions = sum_by (λ x. bounded_weight x.budget x.outbox) sessions
 

@@ -1,7 +1,10 @@
 -- How one session changes: its view, its outbox and its will.
-use Rattle.std.specs.Prelude.{ℕ, ◌≡◌, ◌+◌, Bool, false, length, List, [], ◌∷◌, ◌++◌, map, Option, Some, None, option_map, is_some, if◌then◌else◌, refl}
+use Rattle.std.specs.Prelude.{ℕ, ◌≡◌, ◌+◌, Bool, false, length, List, [], ◌∷◌, ◌++◌, map, Option}
+use Rattle.std.specs.Prelude.{Some, None, option_map, is_some, if◌then◌else◌, refl}
 use Rattle.std.specs.Coded.{Coded, code_by, coded×, coded_bool, coded_ℕ, coded_list, coded_option}
-use Rattle.relay_outbox.specs.Outbox.{Contents, Foremost, reply, patch, snapshot, nothing, empty, with_reply, with_patch, folded, cleared, front_of, without_front, contents_code}
+use Rattle.relay_outbox.specs.Outbox.{Contents, Foremost, reply, patch, snapshot, nothing, empty}
+use Rattle.relay_outbox.specs.Outbox.{with_reply, with_patch, folded, cleared, front_of}
+use Rattle.relay_outbox.specs.Outbox.{without_front, contents_code}
 use Rattle.relay_patch.specs.Weight.{ops_weight}
 use Rattle.relay_patch.specs.declared.op.Op.{Op}
 use Rattle.relay_access.specs.declared.access.Access.{Access}
@@ -10,7 +13,8 @@ use Rattle.relay_proto.specs.declared.message.Message.{Message}
 use Rattle.relay_proto.specs.declared.message.Message.TheVariants as message
 use Rattle.relay_proto.specs.declared.reply.ResumeOutcome.TheVariants as how
 use Rattle.relay_proto.specs.declared.reply.Reply.{Reply}
-use Rattle.relay_proto.specs.declared.reply.Reply.TheVariants.{Welcome, Willing, Watching, Resumed, Unwatched}
+use Rattle.relay_proto.specs.declared.reply.Reply.TheVariants.{Welcome, Willing, Watching, Resumed}
+use Rattle.relay_proto.specs.declared.reply.Reply.TheVariants.{Unwatched}
 use Rattle.relay_room.specs.Room.{State as Room, revision}
 use Rattle.relay_room.specs.declared.catch_up.CatchUp.{CatchUp}
 use Rattle.relay_room.specs.declared.catch_up.CatchUp.TheVariants.{Nothing, Patch, Snapshot}

@@ -1,7 +1,8 @@
 -- When a hub stands for a log, that is, agrees with it: it has the documents, the sessions and the
 -- views of the log, and every watching client that applies what was drawn for it and what waits
 -- holds exactly its view of the present document.
-use Rattle.std.specs.Prelude.{ℕ, ◌≡◌, ⊤, ◌+◌, ◌-◌, ◌<◌, min, true, false, List, [], ◌∷◌, ◌++◌, Option, Some, None, length, map, slice_get, option_map, ◌≤◌, ◌⊎◌}
+use Rattle.std.specs.Prelude.{ℕ, ◌≡◌, ⊤, ◌+◌, ◌-◌, ◌<◌, min, true, false, List, [], ◌∷◌, ◌++◌}
+use Rattle.std.specs.Prelude.{Option, Some, None, length, map, slice_get, option_map, ◌≤◌, ◌⊎◌}
 use Rattle.std.specs.List.{AllByRecursion}
 use Rattle.std.specs.Option.{option_map_or}
 use Rattle.relay_history.specs.History.{Reaches, changes_since}
@@ -16,9 +17,11 @@ use Rattle.relay_room.specs.CatchUp.{IsSent}
 use Rattle.relay_room.specs.Room.{State as Room, IsRoom, revision}
 use Rattle.relay_tree.specs.Document.{Document, null}
 use Rattle.relay_view.specs.View.{View, view}
-use Rattle.relay_hub.specs.Log.{Log, Watching, Stay, stay, home, is_opened, documents, beginning, present_of, watching, Bequest, left, opened, open_count}
+use Rattle.relay_hub.specs.Log.{Log, Watching, Stay, stay, home, is_opened, documents, beginning}
+use Rattle.relay_hub.specs.Log.{present_of, watching, Bequest, left, opened, open_count}
 use Rattle.relay_hub.specs.Session.{Session, later}
-use Rattle.relay_hub.specs.State.{HaveRooms, State, IsConfig, RoomSessions, index_of, home_of, index_named, session_in}
+use Rattle.relay_hub.specs.State.{HaveRooms, State, IsConfig, RoomSessions, index_of, home_of}
+use Rattle.relay_hub.specs.State.{index_named, session_in}
 use Rattle.relay_tree.specs.declared.budget.Budget.TheVariants.{Unbounded}
 use Rattle.relay_hub.specs.declared.config.HubConfig.{HubConfig}
 use Rattle.relay_hub.specs.declared.will.Will.{Will}
@@ -151,9 +154,10 @@ pub record StandsFor (b : HubConfig) (E : Log) (hub : State) : Type 0 where
   pub sessions : (s : ℕ)
       → HomeStands b.max_waiting_patches (documents E) hub.rooms s (index_of hub s) (home E s)
       (watching b E s)
-  -- the wills that are left to be done, each in its room
+  -- the wills that are left to be done
   pub wills : map (named_will hub.rooms) hub.wills ≡ left E
-  pub willing : HaveRooms hub.rooms hub.wills
+  -- each of them has its room
+  pub housed : HaveRooms hub.rooms hub.wills
 
 -- What follows for the clients of a hub that stands for a log.
 

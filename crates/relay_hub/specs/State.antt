@@ -1,10 +1,15 @@
 -- A hub as contracts see it: plain data, and how a session and a room are found in it.
-use Rattle.std.specs.Prelude.{◌≡◌, ⊤, ℕ, ◌+◌, ◌<◌, ◌≤◌, ◌==◌, max, nat_eq, nat_le, nat_lt, Bool, true, false, ◌&&◌, not, is_some, if◌then◌else◌, length, List, [], ◌∷◌, Option, Some, None, option_and_then, map, find, position, slice_get, bytes_eq, refl}
+use Rattle.std.specs.Prelude.{◌≡◌, ⊤, ℕ, ◌+◌, ◌<◌, ◌≤◌, ◌==◌, max, nat_eq, nat_le, nat_lt, Bool}
+use Rattle.std.specs.Prelude.{true, false, ◌&&◌, not, is_some, if◌then◌else◌, length, List, [], ◌∷◌}
+use Rattle.std.specs.Prelude.{Option, Some, None, option_and_then, map, find, position, slice_get}
+use Rattle.std.specs.Prelude.{bytes_eq, refl}
 use Rattle.std.specs.Coded.{Coded, code_by, coded×, coded_list, coded_ℕ}
 use Rattle.std.specs.List.{AllByRecursion}
 use Rattle.std.specs.List.Sorted.{IsStrictlyIncreasing}
 use Rattle.std.specs.Map.{lookup}
-use Rattle.relay_limits.specs.declared.TheConstants.{DEFAULT_ROOMS, DEFAULT_SESSIONS, MAX_COUNT, MAX_REVISIONS, MAX_ROOMS, MAX_SESSIONS, MAX_WAITING_PATCHES}
+use Rattle.relay_limits.specs.declared.TheConstants.{DEFAULT_ROOMS, DEFAULT_SESSIONS, MAX_COUNT}
+use Rattle.relay_limits.specs.declared.TheConstants.{MAX_REVISIONS, MAX_ROOMS, MAX_SESSIONS}
+use Rattle.relay_limits.specs.declared.TheConstants.{MAX_WAITING_PATCHES}
 use Rattle.relay_patch.specs.declared.change.Change.{Change}
 use Rattle.relay_patch.specs.declared.op.Op.{Op}
 use Rattle.relay_room.specs.Room.{State as Room, state_code, revision}
@@ -126,12 +131,12 @@ vacant_index most (w ∷ wills) rooms = None
 abbrev pub vacant_in : State → Option ℕ
 vacant_in hub = vacant_index hub.config.rooms hub.wills hub.rooms
 
--- a revision above all of an evictable room; 0 for one in which no edit was ever accepted
+-- a revision above all of an evictable room; 0 for one that is at revision 0
 abbrev pub above : RoomSessions → ℕ
 above g = if revision g.room == 0 then 0 else revision g.room + 1
 
 -- the revision at which a new room begins that replaces that one: no earlier one begins at a higher
--- one, and every revision of a room that was evicted is lower
+-- one, and every revision above 0 of a room that was evicted is lower
 abbrev pub floor_over : ℕ → Option (List ℕ × RoomSessions) → ℕ
 floor_over floor (Some room) = max floor (above room.1)
 floor_over floor None = floor
@@ -139,7 +144,7 @@ floor_over floor None = floor
 abbrev pub floor_at : Option ℕ → State → ℕ
 floor_at index hub = floor_over hub.floor (option_and_then (slice_get hub.rooms) index)
 
--- another room is wanted, there are as many as may be, and none is evictable
+-- another room is wanted, there are as many as may be, and none can be replaced now
 abbrev pub is_crowded : Option ℕ → State → Bool
 is_crowded index hub =
     not (is_some index) && nat_le hub.config.rooms (length hub.rooms)

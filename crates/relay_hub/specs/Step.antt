@@ -1,6 +1,9 @@
 -- One step of a hub: the answer to an event, and the state after it. What a case does not name is
 -- unchanged.
-use Rattle.std.specs.Prelude.{ℕ, ◌≡◌, ◌+◌, ◌<◌, ◌==◌, Bool, true, false, List, [], ◌∷◌, ◌++◌, Option, Some, None, option_map, Result, Ok, Err, length, option_and_then, slice_get, slice_set, nat_lt, nat_le, not, if◌then◌else◌}
+use Rattle.std.specs.Prelude.{ℕ, ◌≡◌, ◌+◌, ◌<◌, ◌==◌, Bool, true, false, List, [], ◌∷◌, ◌++◌}
+use Rattle.std.specs.Prelude.{Option, Some, None, option_map, Result, Ok, Err, length}
+use Rattle.std.specs.Prelude.{option_and_then, slice_get, slice_set, nat_lt, nat_le, not}
+use Rattle.std.specs.Prelude.{if◌then◌else◌}
 use Rattle.relay_history.specs.History.{with_revision}
 use Rattle.relay_outbox.specs.Outbox.{folded}
 use Rattle.relay_outbox.specs.declared.outbox.TheConstants.{MAX_REPLIES}
@@ -15,8 +18,10 @@ use Rattle.relay_proto.specs.declared.refusal.Refusal.{Refusal}
 use Rattle.relay_proto.specs.declared.reply.Reply.{Reply}
 use Rattle.relay_proto.specs.declared.reply.Reply.TheVariants.{Done}
 use Rattle.relay_proto.specs.declared.request.Request.{Request}
-use Rattle.relay_proto.specs.declared.request.Request.TheVariants.{Edit, Will, Watch, Resume, Unwatch}
-use Rattle.relay_room.specs.CatchUp.{caught_up_within, patch_or_snapshot, MakesPresent, LeadsOn, Fits}
+use Rattle.relay_proto.specs.declared.request.Request.TheVariants.{Edit, Will, Watch, Resume}
+use Rattle.relay_proto.specs.declared.request.Request.TheVariants.{Unwatch}
+use Rattle.relay_room.specs.CatchUp.{caught_up_within, patch_or_snapshot, MakesPresent, LeadsOn}
+use Rattle.relay_room.specs.CatchUp.{Fits}
 use Rattle.relay_room.specs.Edit.{edited}
 use Rattle.relay_room.specs.Room.{State as Room, IsRoom, begun, revision, trimmed}
 use Rattle.relay_room.specs.declared.catch_up.CatchUp.{CatchUp}
@@ -28,21 +33,28 @@ use Rattle.relay_tree.specs.declared.budget.Budget.{Budget}
 use Rattle.relay_limits.specs.declared.TheConstants.{MAX_COUNT}
 use Rattle.relay_hub.specs.declared.config.HubConfig.{HubConfig}
 use Rattle.relay_hub.specs.declared.event.Answer.{Answer}
-use Rattle.relay_hub.specs.declared.event.Answer.TheVariants.{Opened, NotOpened, Heard, Drawn, Closed, WillDone, NoWill, Forgotten, NotForgotten, NoSession}
+use Rattle.relay_hub.specs.declared.event.Answer.TheVariants.{Opened, NotOpened, Heard, Drawn}
+use Rattle.relay_hub.specs.declared.event.Answer.TheVariants.{Closed, WillDone, NoWill, Forgotten}
+use Rattle.relay_hub.specs.declared.event.Answer.TheVariants.{NotForgotten, NoSession}
 use Rattle.relay_hub.specs.declared.event.Event.{Event}
-use Rattle.relay_hub.specs.declared.event.Event.TheVariants.{Open, Receive, Draw, Close, DoWill, Forget}
+use Rattle.relay_hub.specs.declared.event.Event.TheVariants.{Open, Receive, Draw, Close, DoWill}
+use Rattle.relay_hub.specs.declared.event.Event.TheVariants.{Forget}
 use Rattle.relay_hub.specs.declared.event.Opening.{Opening}
 use Rattle.relay_hub.specs.declared.event.Heard.TheVariants.{Answered, Busy}
 use Rattle.relay_hub.specs.declared.fault.ForgetFault.{ForgetFault}
 use Rattle.relay_hub.specs.declared.fault.ForgetFault.TheVariants as forget
 use Rattle.relay_hub.specs.declared.will.Will.{Will as WillLeft}
 use Rattle.relay_hub.specs.declared.fault.OpenFault.{OpenFault}
-use Rattle.relay_hub.specs.declared.fault.OpenFault.TheVariants.{RoomName, RoomsFull, SessionsFull, Exhausted}
+use Rattle.relay_hub.specs.declared.fault.OpenFault.TheVariants.{RoomName, RoomsFull, SessionsFull}
+use Rattle.relay_hub.specs.declared.fault.OpenFault.TheVariants.{Exhausted}
 use Rattle.relay_hub.specs.Admitted.{admitted}
 use Rattle.relay_hub.specs.Allowance.{Allowance, whole, within, after_update}
 use Rattle.relay_hub.specs.Refusal.{refused, edit_refusal, future_refusal}
-use Rattle.relay_hub.specs.Session.{Session, with_outbox, replied, newcomer, leaves_will, watches, unwatches, resumes, notified_outbox, front_message, message_text, ReadsBack, drawn}
-use Rattle.relay_hub.specs.State.{RoomSessions, room_sessions, State, EachOnce, index_of, index_named, vacant_in, floor_at, is_crowded, session_in}
+use Rattle.relay_hub.specs.Session.{Session, with_outbox, replied, newcomer, leaves_will, watches}
+use Rattle.relay_hub.specs.Session.{unwatches, resumes, notified_outbox, front_message}
+use Rattle.relay_hub.specs.Session.{message_text, ReadsBack, drawn}
+use Rattle.relay_hub.specs.State.{RoomSessions, room_sessions, State, EachOnce, index_of}
+use Rattle.relay_hub.specs.State.{index_named, vacant_in, floor_at, is_crowded, session_in}
 
 -- Within a room.
 

@@ -1,14 +1,16 @@
 //! The updates of the newest edit, each for one view. One is made for the first watcher of the view
 //! and shared with the next ones, wherever they stand among the sessions. The patches that are made
 //! for one edit weigh no more together than a budget.
-ghost use Rattle.std.specs.Prelude.{◌≡◌, ◌<◌, ◌-◌, ◌↔◌, ◌⊎◌, [], ◌∷◌, false, is_some, take, IfOk, IfSome, OnOk, OnErr};
+ghost use Rattle.std.specs.Prelude.{◌≡◌, ◌<◌, ◌-◌, ◌↔◌, ◌⊎◌, [], ◌∷◌, false, is_some, take, IfOk};
+ghost use Rattle.std.specs.Prelude.{IfSome, OnOk, OnErr};
 ghost use Rattle.std.specs.Bool.{IsTrue};
 ghost use Rattle.std.specs.List.{Contains};
 ghost use Rattle.relay_history.specs.History.{Reaches};
 ghost use Rattle.relay_patch.specs.Weight.{ops_weight};
 ghost use Rattle.relay_room.specs.Room.{revision};
 ghost use Rattle.relay_hub.specs.Allowance.{whole, smaller, less, same_view, is_made, within};
-ghost use Rattle.relay_hub.specs.CachedUpdate.{IsUpdate, IsKept, views_of, allowance_of, shared_within, spent};
+ghost use Rattle.relay_hub.specs.CachedUpdate.{IsUpdate, IsKept, views_of, allowance_of};
+ghost use Rattle.relay_hub.specs.CachedUpdate.{shared_within, spent};
 
 use crate::cost;
 use crate::cost_meter::CostMeter;
@@ -119,8 +121,8 @@ fn keep<T: Drop>(kept: &mut Vec<T>, item: T) -> Result<(), AllocError>
 /// patch for an equal view is shared, or a snapshot takes its place if the session's budget does
 /// not pay for it. A kept update that is no patch is shared if the view and what a patch may weigh
 /// are the same. Otherwise the update is made within that budget and what is left, and kept; a
-/// patch is paid from what is left. Out of memory leaves what may be made, and the views of the
-/// kept patches.
+/// patch is paid from what is left. Out of memory leaves the weight that patches may still have,
+/// and the views of those that are kept.
 #[tactic(auto, using(crate::proofs::CachedUpdates::patch_found, crate::proofs::CachedUpdates::other_found))]
 pub fn update_for(
     alloc: Global,

@@ -1,12 +1,14 @@
 //! Opening a session in a room. All memory is allocated before anything changes.
-ghost use Rattle.std.specs.Prelude.{◌≡◌, ◌≤◌, Some, None, [], ◌∷◌, ◌++◌, ◌<◌, IfOk, IfSome, OnOk, OnErr, length, position};
+ghost use Rattle.std.specs.Prelude.{◌≡◌, ◌≤◌, Some, None, [], ◌∷◌, ◌++◌, ◌<◌, IfOk, IfSome, OnOk};
+ghost use Rattle.std.specs.Prelude.{OnErr, length, position};
 ghost use Rattle.relay_room.specs.Room.{begun, revision};
 ghost use Rattle.relay_tree.specs.Document.{null};
 ghost use Rattle.relay_limits.specs.declared.TheConstants.{MAX_COUNT};
 ghost use Rattle.relay_hub.specs.Call.{IsAbove, IsFresh};
 ghost use Rattle.relay_hub.specs.Representation.{rooms_of};
 ghost use Rattle.relay_hub.specs.Session.{newcomer};
-ghost use Rattle.relay_hub.specs.State.{IsConfig, room_sessions, is_evictable, index_named, vacant_index};
+ghost use Rattle.relay_hub.specs.State.{IsConfig, room_sessions, is_evictable, index_named};
+ghost use Rattle.relay_hub.specs.State.{vacant_index};
 ghost use Rattle.relay_hub.specs.Step.{ChangesOnly, EntersRooms, Founds, opening_of};
 
 use crate::config::HubConfig;

@@ -1,13 +1,17 @@
 //! The hub: the rooms, the open sessions, and what each call does.
 //!
-//! Each call is a step (`specs/Step`). A hub agrees with the log of the calls that it answered
-//! (`specs/Stands`): it has the documents, sessions and views of the log, and every client that
-//! watches, and applies what was drawn for it and what waits, in order, holds exactly its view of
-//! the present document. A call that returns `NoMemory` changes nothing.
-ghost use Rattle.std.specs.Prelude.{◌≡◌, ◌<◌, ◌≤◌, ◌↔◌, [], ◌∷◌, ℕ, Some, None, Ok, IfOk, IfErr, IfSome, IsErrOf, IsSomeAnd, IsTrue, OnOk, OnErr, length, not, ◌==◌, option_map};
-ghost use Rattle.relay_hub.specs.Call.{StepIf, opening, receiving, drawing, closing, doing_will, forgetting, logged};
+//! Each call but `shed` and the queries is a step (`specs/Step`). A hub agrees with the log of the
+//! calls that it answered (`specs/Stands`): it has the documents, sessions and views of the log,
+//! and every client that watches, and applies what was drawn for it and what waits, in order, holds
+//! exactly its view of the present document. A call that returns `NoMemory` changes nothing.
+ghost use Rattle.std.specs.Prelude.{◌≡◌, ◌<◌, ◌≤◌, ◌↔◌, [], ◌∷◌, ℕ, Some, None, Ok, IfOk, IfErr};
+ghost use Rattle.std.specs.Prelude.{IfSome, IsErrOf, IsSomeAnd, IsTrue, OnOk, OnErr, length, not};
+ghost use Rattle.std.specs.Prelude.{◌==◌, option_map};
+ghost use Rattle.relay_hub.specs.Call.{StepIf, opening, receiving, drawing, closing, doing_will};
+ghost use Rattle.relay_hub.specs.Call.{forgetting, logged};
 ghost use Rattle.relay_hub.specs.Log.{Log, entry};
-ghost use Rattle.relay_hub.specs.State.{config, index_named, is_crowded, vacant_in, session_of, made_with, new_hub};
+ghost use Rattle.relay_hub.specs.State.{config, index_named, is_crowded, vacant_in, session_of};
+ghost use Rattle.relay_hub.specs.State.{made_with, new_hub};
 ghost use Rattle.relay_hub.specs.Session.{waiting};
 ghost use Rattle.relay_hub.specs.Shed.{shed};
 ghost use Rattle.relay_hub.specs.Stands.{StandsFor};
@@ -15,7 +19,8 @@ ghost use Rattle.relay_hub.specs.Step.{Step, open_fault, forget_fault, floor_aft
 ghost use Rattle.relay_limits.specs.declared.TheConstants.{MAX_COUNT};
 ghost use Rattle.relay_hub.specs.Queries.{BadLimits, may_hear, RefusesEdits};
 ghost use Rattle.relay_hub.specs.declared.config.HubConfig.{HubConfig};
-ghost use Rattle.relay_hub.specs.declared.event.Event.TheVariants.{Open, Receive, Draw, Close, DoWill, Forget};
+ghost use Rattle.relay_hub.specs.declared.event.Event.TheVariants.{Open, Receive, Draw, Close};
+ghost use Rattle.relay_hub.specs.declared.event.Event.TheVariants.{DoWill, Forget};
 ghost use Rattle.relay_hub.specs.declared.event.Heard.TheVariants.{Answered};
 ghost use Rattle.relay_hub.specs.declared.fault.HubNewFault.TheVariants.{BadLimit};
 
@@ -202,8 +207,8 @@ impl Hub {
         })
     }
 
-    /// The floor after a session enters: the present one, if it enters the room at `index`; without
-    /// an index a room begins, and it is then above each revision of the room that this replaces.
+    /// The floor after a session enters: the present one; but if no room is at `index`, and the one
+    /// that begins replaces another whose revision is not 0, at least one above that revision.
     fn floor_after(&self, index: Option<usize>) -> u64
         ensures floor { result ≡ floor_after index self.now }
         ensures count { result ≤ MAX_COUNT }
@@ -254,8 +259,8 @@ impl Hub {
         Ok(index)
     }
 
-    /// Whether another room is needed, there are as many as the configuration allows, and none of
-    /// them is evictable.
+    /// Whether another room is needed, there are as many as the configuration allows, and none can
+    /// be replaced now: none is evictable, or a will is left to be done.
     fn is_crowded(&self, index: Option<usize>) -> bool
         ensures { result ≡ is_crowded index self.now }
     {

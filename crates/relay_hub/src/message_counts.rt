@@ -1,6 +1,7 @@
 //! The messages that the sessions of a hub drew, counted by kind.
 ghost use Rattle.std.specs.Prelude.{◌≡◌};
 ghost use Rattle.relay_proto.specs.Words.{word_text};
+ghost use Rattle.relay_hub.specs.Counts.{next, no_snapshots, with_snapshot};
 
 use crate::cost_meter::CostMeter;
 use relay_proto::{Reply, Word};
@@ -99,7 +100,11 @@ impl MessageCounts {
     /// let counts = MessageCounts::none();
     /// assert!(rt; counts.replies == 0 && counts.refusals.iter().all(|word| word.count == 0));
     /// ```
-    pub fn none() -> MessageCounts {
+    pub fn none() -> MessageCounts
+        ensures replies { result.replies ≡ 0 }
+        ensures patches { result.patches ≡ 0 }
+        ensures snapshots { result.snapshots ≡ no_snapshots }
+    {
         MessageCounts {
             replies: 0,
             refusals: [
@@ -138,7 +143,11 @@ impl MessageCounts {
     }
 
     /// Counts what a draw cost, in nanoseconds.
-    pub(crate) fn count_cost(&mut self, nanos: u64) {
+    pub(crate) fn count_cost(&mut self, nanos: u64)
+        ensures replies { self.new.replies ≡ self.old.replies }
+        ensures patches { self.new.patches ≡ self.old.patches }
+        ensures snapshots { self.new.snapshots ≡ self.old.snapshots }
+    {
         self.cost.add(nanos);
     }
 
@@ -151,14 +160,22 @@ impl MessageCounts {
     /// let refused = counts.refusals.iter().find(|refusals| refusals.count > 0)?;
     /// assert!(rt; counts.replies == 2 && refused.word() == "shape");
     /// ```
-    pub fn count_reply(&mut self, reply: &Reply) {
+    pub fn count_reply(&mut self, reply: &Reply)
+        ensures replies { self.new.replies ≡ next self.old.replies }
+        ensures patches { self.new.patches ≡ self.old.patches }
+        ensures snapshots { self.new.snapshots ≡ self.old.snapshots }
+    {
         self.replies = next(self.replies);
         if let Reply::Refused { fault, .. } = reply {
             self.count_refusal(*fault);
         }
     }
 
-    fn count_refusal(&mut self, fault: Word) {
+    fn count_refusal(&mut self, fault: Word)
+        ensures replies { self.new.replies ≡ self.old.replies }
+        ensures patches { self.new.patches ≡ self.old.patches }
+        ensures snapshots { self.new.snapshots ≡ self.old.snapshots }
+    {
         for refusals in self.refusals.iter_mut() {
             if refusals.fault == fault {
                 refusals.count = next(refusals.count);
@@ -173,12 +190,17 @@ impl MessageCounts {
     /// counts.count_patch();
     /// assert!(rt; counts.patches == 1 && counts.replies == 0);
     /// ```
-    pub fn count_patch(&mut self) {
+    pub fn count_patch(&mut self)
+        ensures { self.new ≡ record self.old { patches = next self.old.patches } }
+    {
         self.patches = next(self.patches);
     }
 
     /// Counts a snapshot.
-    pub fn count_snapshot(&mut self, cause: SnapshotCause) {
+    pub fn count_snapshot(&mut self, cause: SnapshotCause)
+        ensures { self.new
+            ≡ record self.old { snapshots = with_snapshot cause self.old.snapshots } }
+    {
         let counts = &mut self.snapshots;
         match cause {
             SnapshotCause::Watch => counts.watch = next(counts.watch),
@@ -191,10 +213,14 @@ impl MessageCounts {
     }
 }
 
-fn zero(fault: Word) -> FaultCount {
+fn zero(fault: Word) -> FaultCount
+    ensures { result ≡ record { fault = fault; count = 0 } }
+{
     FaultCount { fault, count: 0 }
 }
 
-fn next(count: u64) -> u64 {
+fn next(count: u64) -> u64
+    ensures { result ≡ next count }
+{
     count.saturating_add(1)
 }

@@ -1,13 +1,15 @@
 //! The work of the hub's calls, on a room, its open sessions and the index of the views that they
 //! watch.
-ghost use Rattle.std.specs.Prelude.{◌≡◌, ◌<◌, ◌==◌, Some, None, Ok, IfOk, OnOk, OnErr, IsErrOf, IsSome, IsSomeAnd, option_map, nat_le, filter, not};
+ghost use Rattle.std.specs.Prelude.{◌≡◌, ◌<◌, ◌==◌, Some, None, Ok, IfOk, OnOk, OnErr, IsErrOf};
+ghost use Rattle.std.specs.Prelude.{IsSome, IsSomeAnd, option_map, nat_le, filter, not};
 ghost use Rattle.std.specs.FinMap as map;
 ghost use Rattle.relay_room.specs.Edit.{edited};
 ghost use Rattle.relay_room.specs.Room.{revision};
 ghost use Rattle.relay_hub.specs.Call.{drawing, WillServedIf, DrawsIf, ChangesBy, HasSpace};
 ghost use Rattle.relay_hub.specs.Caller.{IsCaller};
 ghost use Rattle.relay_hub.specs.Refusal.{cause_word, edit_refusal};
-ghost use Rattle.relay_hub.specs.Session.{Session, leaves_will, watches as watching, unwatches, waiting};
+ghost use Rattle.relay_hub.specs.Session.{Session, leaves_will, watches as watching, unwatches};
+ghost use Rattle.relay_hub.specs.Session.{waiting};
 ghost use Rattle.relay_hub.specs.SnapshotText.{IsSnapshotText};
 ghost use Rattle.relay_hub.specs.State.{IsRising, is_number, room_sessions, numbers, session_in};
 ghost use Rattle.relay_hub.specs.Step.{EditServed, WillServed, ResumeServed, Serves, OnlyAt};

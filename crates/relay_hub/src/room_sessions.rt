@@ -55,11 +55,14 @@ impl Model for RoomSessions {
 }
 
 impl RoomSessions {
-    ghost use Rattle.std.specs.Prelude.{◌≡◌, ◌≢◌, ◌<◌, ◌≤◌, ◌+◌, true, [], ◌∷◌, Some, None, Ok, IfOk, IfErr, OnOk, OnErr, IsErrOf, IsSome, IsSomeAnd, length, option_map};
+    ghost use Rattle.std.specs.Prelude.{◌≡◌, ◌≢◌, ◌<◌, ◌≤◌, ◌+◌, true, [], ◌∷◌, Some, None, Ok};
+    ghost use Rattle.std.specs.Prelude.{IfOk, IfErr, OnOk, OnErr, IsErrOf, IsSome, IsSomeAnd};
+    ghost use Rattle.std.specs.Prelude.{length, option_map};
     ghost use Rattle.relay_limits.specs.declared.TheConstants.{MAX_REVISIONS};
     ghost use Rattle.relay_room.specs.Room.{begun, revision};
     ghost use Rattle.relay_tree.specs.Document.{null};
-    ghost use Rattle.relay_hub.specs.Call.{receiving, drawing, ReceivesIf, WillServedIf, DrawsIf, HasSpace, IsAbove};
+    ghost use Rattle.relay_hub.specs.Call.{receiving, drawing, ReceivesIf, WillServedIf, DrawsIf};
+    ghost use Rattle.relay_hub.specs.Call.{HasSpace, IsAbove};
     ghost use Rattle.relay_hub.specs.Caller.{IsCaller};
     ghost use Rattle.relay_hub.specs.Session.{Session, waiting};
     ghost use Rattle.relay_hub.specs.Shed.{shed_room};
@@ -98,8 +101,8 @@ impl RoomSessions {
         self.sessions.len()
     }
 
-    /// What the patches weigh that wait for its sessions, as far as that is bounded
-    /// ([`Session::load`]); `u64::MAX` if that is more. Allocates nothing.
+    /// What the patches weigh that wait for its sessions; 0 if no bound was set, since then it is
+    /// not counted ([`Session::load`]); `u64::MAX` if it is more. Allocates nothing.
     pub fn load(&self) -> u64
         ensures { result ≡ saturated (sessions_weight self.now.sessions) }
     {
@@ -128,8 +131,8 @@ impl RoomSessions {
             && self.room.revision() < MAX_COUNT
     }
 
-    /// A revision above all of its own, if it is evictable; 0 if no edit was ever accepted.
-    /// Allocates nothing.
+    /// A revision above all of its own, if it is evictable; 0 if its revision is 0. Allocates
+    /// nothing.
     pub fn above(&self) -> u64
         requires { is_evictable self.now ≡ true }
         ensures { result ≡ above self.now }

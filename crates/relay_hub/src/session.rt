@@ -67,7 +67,8 @@ impl Model for Session {
 }
 
 impl Session {
-    ghost use Rattle.std.specs.Prelude.{◌≡◌, ◌<◌, ◌≤◌, ℕ, nat_le, length, option_map, Ok, None, IfOk, OnOk, OnErr, IsSome, string_bytes};
+    ghost use Rattle.std.specs.Prelude.{◌≡◌, ◌<◌, ◌≤◌, ℕ, nat_le, length, option_map, Ok, None};
+    ghost use Rattle.std.specs.Prelude.{IfOk, OnOk, OnErr, IsSome, string_bytes};
     ghost use Rattle.relay_outbox.specs.declared.outbox.TheConstants.{MAX_REPLIES};
     ghost use Rattle.relay_limits.specs.declared.TheConstants.{MAX_WAITING_PATCHES};
     ghost use Rattle.relay_room.specs.declared.catch_up.CatchUp.{CatchUp};
@@ -75,7 +76,9 @@ impl Session {
     ghost use Rattle.relay_hub.specs.Update.{update_of, heard};
     ghost use Rattle.relay_hub.specs.Shed.{shed_session};
     ghost use Rattle.relay_hub.specs.SnapshotText.{IsSnapshotText};
-    ghost use Rattle.relay_hub.specs.Session.{with_outbox, replied, newcomer, leaves_will, watches, unwatches, resumes, front_message, message_text, ReadsBack, waiting, drawn};
+    ghost use Rattle.relay_hub.specs.Session.{with_outbox, replied, newcomer, leaves_will, watches};
+    ghost use Rattle.relay_hub.specs.Session.{unwatches, resumes, front_message, message_text};
+    ghost use Rattle.relay_hub.specs.Session.{ReadsBack, waiting, drawn};
 
     /// Makes a session in a room at revision `rev`. It watches nothing, and a `Welcome` waits in
     /// its outbox.

@@ -3,7 +3,7 @@
 ghost use Rattle.std.specs.Prelude.{◌≡◌, ◌⊎◌, Some, None, IfOk, IfSome, string_bytes};
 ghost use Rattle.relay_hub.specs.EncodedPatch.{IsTextOf};
 ghost use Rattle.relay_hub.specs.Session.{snapshot_of};
-ghost use Rattle.relay_hub.specs.SnapshotText.{IsSnapshotText, kept_over};
+ghost use Rattle.relay_hub.specs.SnapshotText.{IsSnapshotText, kept_bytes, kept_over};
 
 use crate::cost;
 use crate::message_counts::MessageCounts;
@@ -59,7 +59,9 @@ impl SnapshotText {
     }
 
     /// How many bytes the kept text has; 0 if none is kept. Allocates nothing.
-    pub fn bytes(&self) -> u64 {
+    pub fn bytes(&self) -> u64
+        ensures { result ≡ kept_bytes self.now }
+    {
         match &self.kept {
             Some(kept) => kept.text.len() as u64,
             None => 0,

@@ -1,5 +1,6 @@
 //! What a hub tells of itself. Nothing here changes it.
-ghost use Rattle.std.specs.Prelude.{◌≡◌, ◌≢◌, ◌↔◌, Some, None, IfOk, IsErrOf, option_map, slice_get};
+ghost use Rattle.std.specs.Prelude.{◌≡◌, ◌≢◌, ◌↔◌, Some, None, IfOk, IsErrOf, option_map};
+ghost use Rattle.std.specs.Prelude.{slice_get};
 ghost use Rattle.relay_hub.specs.State.{IsHub, index_of, session_of};
 ghost use Rattle.relay_hub.specs.Representation.{rooms_of};
 ghost use Rattle.relay_hub.specs.Session.{waiting};
@@ -21,8 +22,8 @@ use relay_tree::Tree;
 use std::alloc::Global;
 
 impl Hub {
-    /// The configuration that it was made with. What holds of every hub holds of this one.
-    /// Allocates nothing.
+    /// The configuration that it was made with. Its clause `is` tells the caller what holds of
+    /// every hub. Allocates nothing.
     ///
     /// ```
     /// let hub = Hub::new(alloc, 1_700_000_000, 1, 64, 32).ok()?;
@@ -232,8 +233,8 @@ impl Hub {
         }
     }
 
-    /// What the patches weigh that wait for all sessions, as far as that is bounded
-    /// ([`HubConfig::waiting_weight`]); `u64::MAX` if that is more. Allocates nothing.
+    /// What the patches weigh that wait for all sessions; 0 if no bound was set, since then it is
+    /// not counted ([`HubConfig::waiting_weight`]); `u64::MAX` if it is more. Allocates nothing.
     ///
     /// ```
     /// let bound = Budget::Left(65_536);

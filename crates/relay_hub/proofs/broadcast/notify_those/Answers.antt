@@ -1,4 +1,5 @@
-use Rattle.std.proofs.Common.{◌≡◌, ◌+◌, ◌<◌, ℕ, length, true, false, rules, refl, arith, is_err, if◌then◌else◌}
+use Rattle.std.proofs.Common.{◌≡◌, ◌+◌, ◌<◌, ℕ, length, true, false, rules, refl, arith, is_err}
+use Rattle.std.proofs.Common.{if◌then◌else◌}
 use Rattle.relay_hub.specs.CachedUpdate.{allowance_of}
 use Rattle.relay_hub.proofs.Among.{none_among, next_among}
 use Rattle.relay_hub.proofs.Untold.{next_changed}

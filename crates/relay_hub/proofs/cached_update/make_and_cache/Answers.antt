@@ -2,7 +2,8 @@
 use Rattle.std.proofs.Common.{rules}
 use Rattle.relay_hub.proofs.CachedUpdates.{kept_patch, kept_other}
 use Rattle.relay_hub.proofs.cached_update.make_and_cache.Goals as goal
-use Rattle.relay_hub.proofs.cached_update.make_and_cache.Goals.{in-Patch+in_ok-keep_patch-in-Patch, in_default}
+use Rattle.relay_hub.proofs.cached_update.make_and_cache.Goals.{in-Patch+in_ok-keep_patch-in-Patch}
+use Rattle.relay_hub.proofs.cached_update.make_and_cache.Goals.{in_default}
 
 pub returns-clause-kept : goal.returns-clause-kept
 returns-clause-kept c = elim c.match-update-3.branch [

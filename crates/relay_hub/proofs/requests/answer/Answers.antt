@@ -31,7 +31,9 @@ returns-in-Ok-Unwatch-clause-told c =
     changed_told s c.args.report.now.told _ xs c.unwatch.new.sessions x.0 x.1
     c.unwatch.ensures.unwatches
 
-pub returns-in_ok-resume-in-Ok-Resume-clause-told : goal.returns-in_ok-resume-in-Ok-Resume-clause-told
+pub
+    returns-in_ok-resume-in-Ok-Resume-clause-told
+    : goal.returns-in_ok-resume-in-Ok-Resume-clause-told
 returns-in_ok-resume-in-Ok-Resume-clause-told c =
     let xs = c.args.sessions.now in
     let s = c.args.asked.caller.number in

@@ -1,11 +1,13 @@
-use Rattle.std.proofs.Common.{◌≡◌, ◌≤◌, ◌∙◌, ◌++◌, ℕ, List, [], ◌∷◌, Some, length, nat_eq, sym, ap, arith}
+use Rattle.std.proofs.Common.{◌≡◌, ◌≤◌, ◌∙◌, ◌++◌, ℕ, List, [], ◌∷◌, Some, length, nat_eq, sym, ap}
+use Rattle.std.proofs.Common.{arith}
 use Rattle.std.specs.Map.{lookup}
 use Rattle.relay_hub.specs.Representation.{hub_of}
 use Rattle.relay_hub.specs.State.{RoomSessions}
 use Rattle.relay_hub.specs.Step.{left_of, Step}
 use Rattle.relay_hub.specs.declared.event.Answer.TheVariants as answer
 use Rattle.relay_hub.specs.declared.event.Event.TheVariants.{Close}
-use Rattle.relay_hub.proofs.Representation.{never_missing, is_there, session_there, hub_leaving, closes}
+use Rattle.relay_hub.proofs.Representation.{never_missing, is_there, session_there, hub_leaving}
+use Rattle.relay_hub.proofs.Representation.{closes}
 use Rattle.relay_hub.proofs.Members.{step_is_hub}
 use Rattle.relay_hub.proofs.Stands.{step_stands}
 use Rattle.relay_hub.proofs.hub.Hub.close.Goals as goal

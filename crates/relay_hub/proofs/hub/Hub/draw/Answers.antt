@@ -3,7 +3,8 @@ use Rattle.relay_hub.specs.Call.{StepIf, drawing}
 use Rattle.relay_hub.specs.Representation.{hub_of}
 use Rattle.relay_hub.specs.State.{RoomSessions, State}
 use Rattle.relay_hub.specs.declared.event.Event.TheVariants.{Draw}
-use Rattle.relay_hub.proofs.Representation.{never_missing, is_there, session_is, hub_with, draws, stays_hub}
+use Rattle.relay_hub.proofs.Representation.{never_missing, is_there, session_is, hub_with, draws}
+use Rattle.relay_hub.proofs.Representation.{stays_hub}
 use Rattle.relay_hub.proofs.Stands.{call_stands}
 use Rattle.relay_hub.proofs.hub.Hub.draw.Goals as goal
 

@@ -3,7 +3,8 @@ use Rattle.relay_hub.specs.Call.{StepIf, receiving}
 use Rattle.relay_hub.specs.Representation.{hub_of}
 use Rattle.relay_hub.specs.State.{RoomSessions}
 use Rattle.relay_hub.specs.declared.event.Event.TheVariants.{Receive}
-use Rattle.relay_hub.proofs.Representation.{never_missing, is_there, hears, hub_with, receives, stays_hub}
+use Rattle.relay_hub.proofs.Representation.{never_missing, is_there, hears, hub_with, receives}
+use Rattle.relay_hub.proofs.Representation.{stays_hub}
 use Rattle.relay_hub.proofs.Promises.{refuses_edits}
 use Rattle.relay_hub.proofs.Stands.{call_stands}
 use Rattle.relay_hub.proofs.hub.Hub.receive.Goals as goal
