@@ -3,7 +3,8 @@ use Rattle.std.proofs.Common.{ℕ, List}
 use Rattle.relay_admin.specs.Admitted.{AdmitsExactly}
 use Rattle.relay_admin.specs.Asked.{AnswersHead, AnswersNoHead, FollowsHead}
 use Rattle.relay_admin.specs.declared.answer.Ask.{Ask}
-use Rattle.relay_admin.specs.declared.answer.Ask.TheVariants.{More, Request, Forget, Admit, Exclude, Read, Edit, Refused}
+use Rattle.relay_admin.specs.declared.answer.Ask.TheVariants.{More, Request, Forget, Admit, Exclude}
+use Rattle.relay_admin.specs.declared.answer.Ask.TheVariants.{Read, Edit, Refused}
 use Rattle.relay_operator.specs.Connection.{Answers, AnswersIfWhole}
 
 -- the answer to these bytes

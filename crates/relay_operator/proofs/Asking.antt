@@ -1,5 +1,8 @@
 -- A connection whose request has its response asked for that request.
-use Rattle.std.proofs.Common.{◌≡◌, ◌⊎◌, inl, inr, ℕ, List, Option, None, Some, Result, Ok, Err, IfSome, IsTrue, Bool, true, false, ◌||◌, nat_lt, if◌then◌else◌, slice_get, string_bytes, length, drop, get_or, arith, add-zero, refl, sym, subst, ap, ◌∙◌}
+use Rattle.std.proofs.Common.{◌≡◌, ◌⊎◌, inl, inr, ℕ, List, Option, None, Some, Result, Ok, Err}
+use Rattle.std.proofs.Common.{IfSome, IsTrue, Bool, true, false, ◌||◌, nat_lt, if◌then◌else◌}
+use Rattle.std.proofs.Common.{slice_get, string_bytes, length, drop, get_or, arith, add-zero, refl}
+use Rattle.std.proofs.Common.{sym, subst, ap, ◌∙◌}
 use Rattle.std.proofs.lemmas.List.{length-drop, get_or-drop}
 use Rattle.std.proofs.lemmas.Option.{slice_get_within, get_or_from_slice_get}
 use Rattle.relay_admin.specs.Route.{request}
@@ -9,7 +12,8 @@ use Rattle.relay_admin.specs.Verdict.{accept, refuse, more, verdict_before_head}
 use Rattle.relay_admin.specs.declared.answer.Ask.{Ask}
 use Rattle.relay_admin.specs.declared.answer.Ask.TheVariants as ask
 use Rattle.relay_admin.specs.declared.request.AdminRequest.{AdminRequest}
-use Rattle.relay_admin.specs.declared.request.AdminRequest.TheVariants.{Open, Stop, Health, Metrics, Rooms, Wanted}
+use Rattle.relay_admin.specs.declared.request.AdminRequest.TheVariants.{Open, Stop, Health, Metrics}
+use Rattle.relay_admin.specs.declared.request.AdminRequest.TheVariants.{Rooms, Wanted}
 use Rattle.relay_operator.specs.Connection.{Answers, AnswersIfWhole, Receives}
 use Rattle.relay_operator.specs.Port.{AsksAt, BeginsWith, SomeAsks, is_stop, is_open}
 use Rattle.relay_access.specs.RoomName.{is_room_name}
@@ -19,15 +23,16 @@ use Rattle.relay_operator.specs.declared.admin_connection.AdminConnection.{Admin
 use Rattle.relay_operator.specs.declared.room_request.RoomRequest.{RoomRequest}
 
 -- the answer to an unfinished head accepts nothing
-accepts_no_part : (r : AdminRequest) (bytes : List ℕ) → accept (request r) ≡ verdict_before_head bytes
-    → ⊥
+accepts_no_part : (r : AdminRequest) (bytes : List ℕ)
+    → accept (request r) ≡ verdict_before_head bytes → ⊥
 accepts_no_part r bytes same =
     elim (nat_lt MAX_HEAD (length bytes))
     as (λ long. accept (request r) ≡ (if long then refuse TooLong else more) → ⊥)
     [ true ↦ λ e. cc e | false ↦ λ e. cc e ] same
 
 -- bytes whose answer is a request begin with a head that asks for it
-begins_with : (bytes : List ℕ) (r : AdminRequest) → Answers bytes (ask.Request r) → BeginsWith r bytes
+begins_with : (bytes : List ℕ) (r : AdminRequest) → Answers bytes (ask.Request r)
+    → BeginsWith r bytes
 begins_with bytes r is = record {
   has_head = λ none.
       elim (is.no_head none)
@@ -91,44 +96,36 @@ either : (b t : Bool) → IsTrue (b || t) → IsTrue b ⊎ IsTrue t
 either true t holds = inl holds
 either false t holds = inr holds
 
-module _ {S : Type 0} (remaining : S → Option (List ℕ)) where
-  stops_at : (old now : List (AdminConnection S)) (index turn : ℕ) (served : Option AdminRequest)
-      → drop index now ≡ drop turn old → AsksAt remaining index served now
-      → IsTrue (is_stop served) → SomeAsks remaining Stop old
-  stops_at old now index turn (Some Stop) same asks is =
-      asks_among remaining old now index turn Stop same asks
-  stops_at old now index turn None same asks is = absurd (cc is)
-  stops_at old now index turn (Some Open) same asks is = absurd (cc is)
-  stops_at old now index turn (Some Health) same asks is = absurd (cc is)
-  stops_at old now index turn (Some Metrics) same asks is = absurd (cc is)
-  stops_at old now index turn (Some Rooms) same asks is = absurd (cc is)
-  stops_at old now index turn (Some Wanted) same asks is = absurd (cc is)
+pub stop_only : (served : Option AdminRequest) → IsTrue (is_stop served) → served ≡ Some Stop
+stop_only (Some Stop) is = refl
+stop_only None is = cc is
+stop_only (Some Open) is = cc is
+stop_only (Some Health) is = cc is
+stop_only (Some Metrics) is = cc is
+stop_only (Some Rooms) is = cc is
+stop_only (Some Wanted) is = cc is
 
-  opens_at : (old now : List (AdminConnection S)) (index turn : ℕ) (served : Option AdminRequest)
-      → drop index now ≡ drop turn old → AsksAt remaining index served now
-      → IsTrue (is_open served) → SomeAsks remaining Open old
-  opens_at old now index turn (Some Open) same asks is =
-      asks_among remaining old now index turn Open same asks
-  opens_at old now index turn None same asks is = absurd (cc is)
-  opens_at old now index turn (Some Stop) same asks is = absurd (cc is)
-  opens_at old now index turn (Some Health) same asks is = absurd (cc is)
-  opens_at old now index turn (Some Metrics) same asks is = absurd (cc is)
-  opens_at old now index turn (Some Rooms) same asks is = absurd (cc is)
-  opens_at old now index turn (Some Wanted) same asks is = absurd (cc is)
+pub open_only : (served : Option AdminRequest) → IsTrue (is_open served) → served ≡ Some Open
+open_only (Some Open) is = refl
+open_only None is = cc is
+open_only (Some Stop) is = cc is
+open_only (Some Health) is = cc is
+open_only (Some Metrics) is = cc is
+open_only (Some Rooms) is = cc is
+open_only (Some Wanted) is = cc is
 
-  -- whoever asked to stop had a turn before, or has it now
-  pub stops_next : (old now : List (AdminConnection S)) (index turn : ℕ)
-      (served : Option AdminRequest) (was : Bool) → drop index now ≡ drop turn old
-      → AsksAt remaining index served now → (IsTrue was → SomeAsks remaining Stop old)
-      → IsTrue (was || is_stop served) → SomeAsks remaining Stop old
-  stops_next old now index turn served was same asks before stops =
-      elim (either was (is_stop served) stops)
-      [ inl earlier ↦ before earlier | inr is ↦ stops_at old now index turn served same asks is ]
-
-  pub opens_next : (old now : List (AdminConnection S)) (index turn : ℕ)
-      (served : Option AdminRequest) (was : Bool) → drop index now ≡ drop turn old
-      → AsksAt remaining index served now → (IsTrue was → SomeAsks remaining Open old)
-      → IsTrue (was || is_open served) → SomeAsks remaining Open old
-  opens_next old now index turn served was same asks before opens =
-      elim (either was (is_open served) opens)
-      [ inl earlier ↦ before earlier | inr is ↦ opens_at old now index turn served same asks is ]
+-- whoever made the request had a turn before, or has it now
+pub asks_next : {S : Type 0} (remaining : S → Option (List ℕ)) (r : AdminRequest)
+    (is_it : Option AdminRequest → Bool)
+    → ((served : Option AdminRequest) → IsTrue (is_it served) → served ≡ Some r)
+    → (old now : List (AdminConnection S)) (index turn : ℕ) (served : Option AdminRequest)
+    (was : Bool) → drop index now ≡ drop turn old → AsksAt remaining index served now
+    → (IsTrue was → SomeAsks remaining r old) → IsTrue (was || is_it served)
+    → SomeAsks remaining r old
+asks_next remaining r is_it only old now index turn served was same asks before holds =
+    elim (either was (is_it served) holds) [
+      | inl earlier ↦ before earlier
+      | inr is ↦
+          asks_among remaining old now index turn r same
+          (subst (λ s. AsksAt remaining index s now) (only served is) asks)
+    ]

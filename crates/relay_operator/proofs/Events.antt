@@ -9,7 +9,8 @@ not_true : (b : Bool) → not b ≡ true → b ≡ false
 not_true b h = search rules
 
 pub none_left : (events : List ReadyEvent) → NoneIsAdmin (without_admin events)
-none_left events k d within = not_true _ (filter_passes (λ event. not (is_admin event)) events k d within)
+none_left events k d within =
+    not_true _ (filter_passes (λ event. not (is_admin event)) events k d within)
 
 -- nor once they tell of a second
 pub none_after : (events between after : List ReadyEvent) → between ≡ without_admin events
@@ -19,5 +20,6 @@ none_after events between after left told =
     elim told [
       | inl same ↦ subst NoneIsAdmin (sym same) none
       | inr more ↦
-          subst NoneIsAdmin (sym more) (All-push (λ event. is_admin event ≡ false) between Second none refl)
+          subst NoneIsAdmin (sym more)
+          (All-push (λ event. is_admin event ≡ false) between Second none refl)
     ]

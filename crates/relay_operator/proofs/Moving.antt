@@ -1,5 +1,7 @@
 -- Calls on a connection's stream, one after another.
-use Rattle.std.proofs.Common.{◌≡◌, ℕ, List, [], ◌++◌, Option, refl, sym, ap, subst, ◌∙◌, append_assoc, append-nil, ◌+◌, ◌-◌, min, length, take, drop, Some, string_bytes, Global, String}
+use Rattle.std.proofs.Common.{◌≡◌, ℕ, List, [], ◌++◌, Option, refl, sym, ap, subst, ◌∙◌}
+use Rattle.std.proofs.Common.{append_assoc, append-nil, ◌+◌, ◌-◌, min, length, take, drop, Some}
+use Rattle.std.proofs.Common.{string_bytes, Global, String}
 use Rattle.std.proofs.KnownBytes.{Appends-trans, Appends-nil, Consumes-trans, Consumes-nil}
 use Rattle.std.proofs.lemmas.List.{take-append-drop, drop-drop, drop_min, take_rest}
 use Rattle.std.specs.Io.KnownBytes.{Appends}

@@ -1,5 +1,6 @@
 -- The list of rooms while it is written.
-use Rattle.std.proofs.Common.{◌≡◌, ◌≤◌, ◌+◌, ℕ, List, length, drop, slice_get, Some, ap, ◌∙◌, [], ◌∷◌, ◌++◌}
+use Rattle.std.proofs.Common.{◌≡◌, ◌≤◌, ◌+◌, ℕ, List, length, drop, slice_get, Some, ap, ◌∙◌, []}
+use Rattle.std.proofs.Common.{◌∷◌, ◌++◌}
 use Rattle.std.proofs.lemmas.List.{drop_all}
 use Rattle.json.specs.Token.{Token, end_array}
 use Rattle.relay_admin.specs.Rooms.{begun}
@@ -24,4 +25,6 @@ pub listed : (view : AdminView) (index : ℕ) (tokens : List Token)
     → length (rooms_seen view.hub.now) ≤ index → rooms_listed view ≡ tokens ++ end_array ∷ []
 listed view index tokens rows past =
     ap (λ ts. ts ++ end_array ∷ [])
-    (rows ∙ ap (λ l. with_rooms view index l tokens) (drop_all index (rooms_seen view.hub.now) past))
+    (rows
+    ∙ ap (λ l. with_rooms view index l tokens)
+    (drop_all index (rooms_seen view.hub.now) past))

@@ -1,8 +1,11 @@
 -- The rooms that are seen, and the sums over them.
-use Rattle.std.proofs.Common.{◌≡◌, ◌<◌, ◌≤◌, ◌+◌, ◌-◌, ◌^◌, ℕ, zero, suc, List, [], ◌∷◌, length, take, drop, slice_get, sum_by, Option, Some, None, option_map, inl, inr, refl, sym, ap, ◌∙◌, arith, add-one}
+use Rattle.std.proofs.Common.{◌≡◌, ◌<◌, ◌≤◌, ◌+◌, ◌-◌, ◌^◌, ℕ, zero, suc, List, [], ◌∷◌, length}
+use Rattle.std.proofs.Common.{take, drop, slice_get, sum_by, Option, Some, None, option_map, inl}
+use Rattle.std.proofs.Common.{inr, refl, sym, ap, ◌∙◌, arith, add-one}
 use Rattle.std.proofs.lemmas.List.{take_all, length-take, length-map}
 use Rattle.std.proofs.lemmas.List.Sums.{sum_by_more}
-use Rattle.std.proofs.lemmas.Option.{slice_get-map, slice_get_within, slice_get_cases, get_or_from_slice_get}
+use Rattle.std.proofs.lemmas.Option.{slice_get-map, slice_get_within, slice_get_cases}
+use Rattle.std.proofs.lemmas.Option.{get_or_from_slice_get}
 use Rattle.std.proofs.Math.Seq.{drop-cons}
 use Rattle.relay_hub.specs.State.{State}
 use Rattle.relay_hub.specs.Summary.{Summary, summary_of, shown_by}
@@ -29,7 +32,11 @@ seen_at hub index found within is =
 -- no more rooms are seen than an index counts
 pub few_seen : (hub : State) → length (rooms_seen hub) ≤ 2 ^ 64 - 1
 few_seen hub =
-    omega (arith, length-map (take (2 ^ 64 - 1) hub.rooms) summary_of, length-take (2 ^ 64 - 1) hub.rooms)
+    omega (
+      arith,
+      length-map (take (2 ^ 64 - 1) hub.rooms) summary_of,
+      length-take (2 ^ 64 - 1) hub.rooms,
+    )
 
 -- where the hub shows a room, it is the one that is seen
 pub room_seen : (hub : State) (index : ℕ) (found : Option RoomSummary) (room : RoomSummary)

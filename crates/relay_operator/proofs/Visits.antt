@@ -1,5 +1,7 @@
 -- The responses to requests for a room, with and without a visit.
-use Rattle.std.proofs.Common.{◌≡◌, ◌↔◌, ℕ, true, List, map, string_bytes, String, Global, Option, Some, None, IsSome, option_map, Result, Ok, Err, IfOk, sym, ap, subst, ◌∙◌}
+use Rattle.std.proofs.Common.{◌≡◌, ◌↔◌, ℕ, true, List, map, string_bytes, String, Global, Option}
+use Rattle.std.proofs.Common.{Some, None, IsSome, option_map, Result, Ok, Err, IfOk, sym, ap, subst}
+use Rattle.std.proofs.Common.{◌∙◌}
 use Rattle.relay_admin.specs.Asking.{IsJson}
 use Rattle.relay_admin.specs.Conditions.{is_named, matches}
 use Rattle.relay_admin.specs.Responses.{response_text}
@@ -13,7 +15,9 @@ use Rattle.relay_hub.specs.Summary.{Summary, room_named, shown_by, summary_of}
 use Rattle.relay_hub.specs.declared.summary.RoomSummary.{RoomSummary}
 use Rattle.relay_link.specs.declared.visit.Visit.{Visit}
 use Rattle.relay_room.specs.Room.{revision}
-use Rattle.relay_operator.specs.Visiting.{AnswersVisit, IsVisitResponse, PreparesBody, PreparesEdit, PreparesIf, PreparesPart, PreparesRead, PreparesReadBy, Responds, SaysNotJson, revision_named, tag_of}
+use Rattle.relay_operator.specs.Visiting.{AnswersVisit, IsVisitResponse, PreparesBody, PreparesEdit}
+use Rattle.relay_operator.specs.Visiting.{PreparesIf, PreparesPart, PreparesRead, PreparesReadBy}
+use Rattle.relay_operator.specs.Visiting.{Responds, SaysNotJson, revision_named, tag_of}
 use Rattle.relay_operator.specs.declared.room_request.Prepared.{Prepared}
 use Rattle.relay_operator.specs.declared.room_request.Prepared.TheVariants as prepared
 use Rattle.relay_operator.specs.declared.room_request.RoomRequest.{RoomRequest}
@@ -72,8 +76,8 @@ no_json (Some text) is json holds = absurd (cc is)
 
 -- a body that is no JSON makes no edit
 pub prepares_not_json : {E : Type 0} (hub : State) (request : EditRequest) (body : List ℕ)
-    (text : Option (String Global)) (tag : RevisionTag) (reply : Response) (made : Result Prepared E)
-    → tag ≡ tag_of hub (revision_named (string_bytes request.room) hub)
+    (text : Option (String Global)) (tag : RevisionTag) (reply : Response)
+    (made : Result Prepared E) → tag ≡ tag_of hub (revision_named (string_bytes request.room) hub)
     → matches tag request.if_match ≡ true → text ≡ None → (IsSome text ↔ IsJson body)
     → SaysNotJson reply → IfOk made (Responds reply) → IfOk made (PreparesEdit hub request body)
 prepares_not_json hub request body text tag reply (Ok (prepared.Response words)) is_tag holds none

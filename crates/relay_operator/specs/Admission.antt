@@ -4,7 +4,8 @@ use Rattle.relay_admin.specs.declared.response.Response.{Response}
 use Rattle.relay_admin.specs.declared.response.Response.TheVariants as response
 use Rattle.relay_admin.specs.declared.unavailable.Unavailable.TheVariants as unavailable
 use Rattle.relay_link.specs.declared.entrance_fault.EntranceFault.{EntranceFault}
-use Rattle.relay_link.specs.declared.entrance_fault.EntranceFault.TheVariants.{AllOpen, Full, NoMemory}
+use Rattle.relay_link.specs.declared.entrance_fault.EntranceFault.TheVariants.{AllOpen, Full}
+use Rattle.relay_link.specs.declared.entrance_fault.EntranceFault.TheVariants.{NoMemory}
 use Rattle.relay_operator.specs.declared.admission.Admission.{Admission}
 use Rattle.relay_operator.specs.declared.admission.Admission.TheVariants.{Open, Close}
 

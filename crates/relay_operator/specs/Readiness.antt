@@ -1,5 +1,6 @@
 -- Which events are the admin port's, and what is known of that port.
-use Rattle.std.specs.Prelude.{Bool, false, ◌==◌, ◌||◌, not, ◌≡◌, ◌⊎◌, All, List, [], ◌∷◌, ◌++◌, filter}
+use Rattle.std.specs.Prelude.{Bool, false, ◌==◌, ◌||◌, not, ◌≡◌, ◌⊎◌, All, List, [], ◌∷◌, ◌++◌}
+use Rattle.std.specs.Prelude.{filter}
 use Rattle.relay_operator.specs.declared.admin_readiness.AdminReadiness.{AdminReadiness}
 use Rattle.relay_operator.specs.declared.admin_readiness.TheConstants.{ADMIN_LISTENER, ADMIN_STREAM}
 use Rattle.relay_operator.specs.declared.readiness.ReadyEvent.{ReadyEvent}

@@ -1,5 +1,6 @@
 -- The list of rooms that an operator sees.
-use Rattle.std.specs.Prelude.{ℕ, ◌+◌, ◌-◌, nat_lt, if◌then◌else◌, List, [], ◌∷◌, ◌++◌, slice_index, Option, Some, None}
+use Rattle.std.specs.Prelude.{ℕ, ◌+◌, ◌-◌, nat_lt, if◌then◌else◌, List, [], ◌∷◌, ◌++◌, slice_index}
+use Rattle.std.specs.Prelude.{Option, Some, None}
 use Rattle.json.specs.Token.{Token, end_array}
 use Rattle.relay_admin.specs.Rooms.{begun, with_room}
 use Rattle.relay_hub.specs.Summary.{Summary}

@@ -1,12 +1,14 @@
 -- How a request for a room is answered: by the visit that it comes to, or without one.
-use Rattle.std.specs.Prelude.{◌≡◌, ◌≢◌, ℕ, ◌+◌, Bool, true, false, List, [], map, slice_get, Option, Some, None, string_bytes, Result, Ok, Err}
+use Rattle.std.specs.Prelude.{◌≡◌, ◌≢◌, ℕ, ◌+◌, Bool, true, false, List, [], map, slice_get, Option}
+use Rattle.std.specs.Prelude.{Some, None, string_bytes, Result, Ok, Err}
 use Rattle.json.specs.Lex.{tokens}
 use Rattle.relay_admin.specs.Asking.{IsJson, watch_tokens, edit_tokens, snapshot_text}
 use Rattle.relay_admin.specs.Conditions.{is_named, matches}
 use Rattle.relay_admin.specs.Outcome.{outcome_of}
 use Rattle.relay_admin.specs.Responses.{response_text}
 use Rattle.relay_admin.specs.declared.outcome.Outcome.{Outcome}
-use Rattle.relay_admin.specs.declared.outcome.Outcome.TheVariants.{Accepted, Stale, Malformed, Unprocessable}
+use Rattle.relay_admin.specs.declared.outcome.Outcome.TheVariants.{Accepted, Stale, Malformed}
+use Rattle.relay_admin.specs.declared.outcome.Outcome.TheVariants.{Unprocessable}
 use Rattle.relay_admin.specs.declared.asking.TheConstants.{NOT_JSON}
 use Rattle.relay_admin.specs.declared.not_forgotten.NotForgotten.TheVariants as kept
 use Rattle.relay_admin.specs.declared.response.Response.{Response}

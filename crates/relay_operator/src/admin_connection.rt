@@ -1,8 +1,12 @@
 //! A connection to the admin port: one request, one response.
-ghost use Rattle.std.specs.Prelude.{◌≡◌, ◌≢◌, [], Some, is_some, IfOk, IfSome, OnOk, option_copied, string_bytes};
+ghost use Rattle.std.specs.Prelude.{◌≡◌, ◌≢◌, [], Some, is_some, IfOk, IfSome, OnOk, option_copied};
+ghost use Rattle.std.specs.Prelude.{string_bytes};
 ghost use Rattle.std.specs.Io.KnownBytes.{IsAtEnd};
 ghost use Rattle.std.specs.IoError.{error_kind};
-ghost use Rattle.relay_operator.specs.Connection.{AnswersIfWhole, IsFresh, Receives, SameButStream, Sends, Tells, answered, asked_by, asking, body_of, missing_by, missing_of, moved_after, unsent};
+ghost use Rattle.relay_operator.specs.Connection.{AnswersIfWhole, IsFresh, Receives, SameButStream};
+ghost use Rattle.relay_operator.specs.Connection.{Sends, Tells, answered, asked_by, asking};
+ghost use Rattle.relay_operator.specs.Connection.{body_of, missing_by, missing_of, moved_after};
+ghost use Rattle.relay_operator.specs.Connection.{unsent};
 
 use crate::room_request::RoomRequest;
 use relay_admin::{Ask, EditRequest, MAX_HEAD, ask};

@@ -1,6 +1,7 @@
 //! The port of a server at which an operator asks how it is, reads, edits and forgets rooms, lets
 //! clients in, and stops it.
-ghost use Rattle.std.specs.Prelude.{◌≡◌, ◌<◌, ◌≤◌, ◌+◌, ◌^◌, ◌⊎◌, IfSome, IsTrue, [], drop, option_and_then, option_copied, slice_get, vec_len};
+ghost use Rattle.std.specs.Prelude.{◌≡◌, ◌<◌, ◌≤◌, ◌+◌, ◌^◌, ◌⊎◌, IfSome, IsTrue, [], drop};
+ghost use Rattle.std.specs.Prelude.{option_and_then, option_copied, slice_get, vec_len};
 ghost use Rattle.relay_admin.specs.declared.request.AdminRequest.TheVariants.{Open, Stop};
 ghost use Rattle.relay_operator.specs.declared.admin_port.TheConstants.{MAX_CONNECTIONS};
 
@@ -81,7 +82,8 @@ where
 
     ghost use Rattle.relay_operator.specs.Connection.{asked_by};
     ghost use Rattle.relay_operator.specs.Response.{AnswersAsk};
-    ghost use Rattle.relay_operator.specs.Port.{Admits, Answered, AsksAt, Holds, OnlyAt, SomeAdmits, SomeAsks, SomeForgets};
+    ghost use Rattle.relay_operator.specs.Port.{Admits, Answered, AsksAt, Holds, OnlyAt};
+    ghost use Rattle.relay_operator.specs.Port.{SomeAdmits, SomeAsks, SomeForgets};
 
     /// Accepts connections that wait, at most as many as may be held. Returns whether more may
     /// wait. A connection that cannot be held is dropped.
@@ -246,7 +248,7 @@ where
         }
     }
 
-    /// What the oldest connection asks that has a room opened or closed.
+    /// The request of the oldest connection that asks for a room to be opened or closed.
     pub fn next_admission(&self) -> Option<Admission<'_>>
         // A room is named only if a connection asks for it to be opened or closed.
         ensures { IfSome result (λ asked. SomeAdmits asked self.now.connections.items) }
@@ -288,7 +290,7 @@ where
         self.answer_at(index, reply);
     }
 
-    /// The room that the oldest connection which waits for that asked to be forgotten.
+    /// The room that the oldest connection names which asks for a room to be forgotten.
     pub fn room_to_forget(&self) -> Option<&str>
         // A room is named only if a connection asks for it to be forgotten.
         ensures { IfSome result (λ room. SomeForgets room.now self.now.connections.items) }

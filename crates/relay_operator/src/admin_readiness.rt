@@ -2,14 +2,15 @@
 //! from the server's rounds, each round's work is timed, and an event tells of each second.
 ghost use Rattle.std.specs.Duration.{as_nanos};
 ghost use Rattle.std.specs.Prelude.{◌≡◌, ◌/◌, IsErr, true, false};
-ghost use Rattle.relay_operator.specs.Readiness.{MayTellSecond, NoneIsAdmin, has_port, is_admin, is_ready, with_ready, without_admin};
+ghost use Rattle.relay_operator.specs.Readiness.{MayTellSecond, NoneIsAdmin, has_port, is_admin};
+ghost use Rattle.relay_operator.specs.Readiness.{is_ready, with_ready, without_admin};
 
 use crate::longest_round::LongestRound;
 use crate::readiness::{Readiness, ReadyEvent};
 use std::io;
 use std::time::{Clock, Duration};
 
-/// The key of the admin port's listener. No slab has this key, nor the next.
+/// The key of the admin port's listener. No slab has this key, nor [`ADMIN_STREAM`].
 pub const ADMIN_LISTENER: usize = usize::MAX - 1;
 
 /// The key of each connection to the admin port. They share one, since any event makes the port

@@ -1,7 +1,10 @@
 //! What is asked of a room, and the response by what came of it.
 ghost use Rattle.std.specs.Prelude.{◌≡◌, IfOk, map, string_bytes};
 ghost use Rattle.relay_operator.specs.RoomRequest.{asked_of_room};
-ghost use Rattle.relay_operator.specs.Visiting.{AnswersTexts, AnswersVisit, IsVisitResponse, PreparesEdit, PreparesRead, Responds, SaysNotJson, forgotten_response, refused_response, revision_named, tag_of};
+ghost use Rattle.relay_operator.specs.Visiting.{AnswersTexts, AnswersVisit, IsVisitResponse};
+ghost use Rattle.relay_operator.specs.Visiting.{PreparesEdit, PreparesRead, Responds, SaysNotJson};
+ghost use Rattle.relay_operator.specs.Visiting.{forgotten_response, refused_response};
+ghost use Rattle.relay_operator.specs.Visiting.{revision_named, tag_of};
 
 use relay_access::{Access, is_room_name};
 use relay_admin::{
