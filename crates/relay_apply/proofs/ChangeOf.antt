@@ -1,5 +1,6 @@
 -- What the checks of a replacement, a copy and a move imply for the operation and its change.
-use Rattle.std.proofs.Common.{◌≡◌, [], ◌∷◌, ◌++◌, Bool, true, false, Ok, Err, IsOk, refl, sym, ap, subst, ◌∙◌}
+use Rattle.std.proofs.Common.{◌≡◌, [], ◌∷◌, ◌++◌, Bool, true, false, Ok, Err, IsOk, refl, sym, ap}
+use Rattle.std.proofs.Common.{subst, ◌∙◌}
 use Rattle.relay_tree.specs.Document.{Document}
 use Rattle.relay_pointer.specs.Index.{Token}
 use Rattle.relay_pointer.specs.Path.{Path, is_proper_prefix, same_path}

@@ -1,5 +1,7 @@
 -- Insertions and removals in a list of documents, and in members.
-use Rattle.std.proofs.Common.{◌≡◌, ℕ, ◌<◌, ◌≤◌, List, length, get_or, Bool, true, false, Option, Some, None, Ok, Err, IsOk, ok_or, String, Global, string_bytes, refl, sym, ap, ◌∙◌, nat_le, nat_cmp, arith, slice_get}
+use Rattle.std.proofs.Common.{◌≡◌, ℕ, ◌<◌, ◌≤◌, List, length, get_or, Bool, true, false, Option}
+use Rattle.std.proofs.Common.{Some, None, Ok, Err, IsOk, ok_or, String, Global, string_bytes, refl}
+use Rattle.std.proofs.Common.{sym, ap, ◌∙◌, nat_le, nat_cmp, arith, slice_get}
 use Rattle.std.specs.declared.vec.Vec.{Vec}
 use Rattle.std.specs.List.{insert, remove}
 use Rattle.std.specs.Map.{lookup, remove_entry}
@@ -13,7 +15,8 @@ use Rattle.relay_tree.specs.Part.{item_at, member_at}
 use Rattle.relay_tree.specs.Seen.{members_of, document_of}
 use Rattle.relay_tree.specs.declared.tree.Node.{Node}
 use Rattle.relay_tree.specs.declared.tree.Node.TheVariants as node
-use Rattle.relay_tree.proofs.Elements.{items_length-items_of, slice_get-items_of, insert_item-items_of, drop_item-items_of, item_at-past}
+use Rattle.relay_tree.proofs.Elements.{items_length-items_of, slice_get-items_of}
+use Rattle.relay_tree.proofs.Elements.{insert_item-items_of, drop_item-items_of, item_at-past}
 use Rattle.relay_tree.proofs.Named.{Entry, members_of-lookup, dropped_member}
 use Rattle.relay_pointer.specs.Index.{Token, index_of}
 use Rattle.relay_patch.specs.Walk.{is_dash, element, step}

@@ -1,9 +1,12 @@
 -- A container from which a part is removed.
-use Rattle.std.proofs.Common.{◌≡◌, ℕ, suc, ◌+◌, ◌-◌, ◌<◌, ◌≤◌, Bool, true, false, Option, Some, None, Ok, refl, sym, ap, ◌∙◌, bytes_eq, nat_le, nat_lt, ok_or, arith}
+use Rattle.std.proofs.Common.{◌≡◌, ℕ, suc, ◌+◌, ◌-◌, ◌<◌, ◌≤◌, Bool, true, false, Option, Some}
+use Rattle.std.proofs.Common.{None, Ok, refl, sym, ap, ◌∙◌, bytes_eq, nat_le, nat_lt, ok_or, arith}
 use Rattle.std.proofs.lemmas.Bool.Decides.{nat_tests}
 use Rattle.relay_tree.specs.Document.{Document, list, object, Items, Members}
-use Rattle.relay_tree.specs.Part.{items_length, item_at, drop_item, drop_member, list_len, list_item}
-use Rattle.relay_tree.proofs.Elements.{item_at-past, item_at-drop_below, drop_item-shorter, item_at-drop_behind}
+use Rattle.relay_tree.specs.Part.{items_length, item_at, drop_item, drop_member, list_len}
+use Rattle.relay_tree.specs.Part.{list_item}
+use Rattle.relay_tree.proofs.Elements.{item_at-past, item_at-drop_below, drop_item-shorter}
+use Rattle.relay_tree.proofs.Elements.{item_at-drop_behind}
 use Rattle.relay_tree.proofs.Named.{member_at-drop_other}
 use Rattle.relay_pointer.specs.Index.{Token, index_of}
 use Rattle.relay_apply.specs.declared.insert_target.InsertTarget.TheVariants as insert_target

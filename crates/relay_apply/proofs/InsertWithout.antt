@@ -1,5 +1,6 @@
 -- Where an insertion goes in a document from which a part was removed.
-use Rattle.std.proofs.Common.{◌≡◌, [], ◌∷◌, Bool, true, false, Result, Ok, Err, refl, sym, ap, ◌∙◌, bytes_eq}
+use Rattle.std.proofs.Common.{◌≡◌, [], ◌∷◌, Bool, true, false, Result, Ok, Err, refl, sym, ap, ◌∙◌}
+use Rattle.std.proofs.Common.{bytes_eq}
 use Rattle.relay_tree.specs.Document.{Document, list, object}
 use Rattle.relay_tree.proofs.Names.{equal_bytes}
 use Rattle.relay_pointer.specs.Index.{Token, index_of}

@@ -1,7 +1,12 @@
 -- The depth and the weight of a document after a change, from what the change added and removed.
-use Rattle.std.proofs.Common.{◌≡◌, ℕ, suc, ◌+◌, ◌-◌, ◌^◌, ◌<◌, ◌≤◌, max, List, [], ◌∷◌, ◌++◌, length, Bool, true, false, Option, Some, None, Result, Ok, Err, ok_or, refl, sym, ap, subst, ◌∙◌, bytes_eq, if◌then◌else◌, nat_lt, IsOk, String, Global, string_bytes, get_or, take, OnOk, arith, IfOk}
-use Rattle.relay_tree.specs.Document.{Document, null, list, object, Items, Members, no_members, member, depth, weight, items_weight, members_weight}
-use Rattle.relay_tree.specs.Part.{insert_item, drop_item, member_at, set_member, put_member, drop_member}
+use Rattle.std.proofs.Common.{◌≡◌, ℕ, suc, ◌+◌, ◌-◌, ◌^◌, ◌<◌, ◌≤◌, max, List, [], ◌∷◌, ◌++◌}
+use Rattle.std.proofs.Common.{length, Bool, true, false, Option, Some, None, Result, Ok, Err, ok_or}
+use Rattle.std.proofs.Common.{refl, sym, ap, subst, ◌∙◌, bytes_eq, if◌then◌else◌, nat_lt, IsOk}
+use Rattle.std.proofs.Common.{String, Global, string_bytes, get_or, take, OnOk, arith, IfOk}
+use Rattle.relay_tree.specs.Document.{Document, null, list, object, Items, Members, no_members}
+use Rattle.relay_tree.specs.Document.{member, depth, weight, items_weight, members_weight}
+use Rattle.relay_tree.specs.Part.{insert_item, drop_item, member_at, set_member, put_member}
+use Rattle.relay_tree.specs.Part.{drop_member}
 use Rattle.relay_pointer.specs.Index.{Token, index_of}
 use Rattle.relay_pointer.specs.Path.{Path, path_of, at, put, put_element, with_child}
 use Rattle.relay_patch.specs.Walk.{then_do, element, step, walk}
@@ -9,17 +14,20 @@ use Rattle.relay_patch.specs.declared.fault.Cause.{Cause}
 use Rattle.relay_patch.specs.declared.fault.Cause.TheVariants.{TooDeep, TooHeavy, Missing, PastEnd}
 use Rattle.relay_patch.specs.Place.{parent, last}
 use Rattle.relay_patch.specs.declared.change.Place.{Place}
-use Rattle.relay_patch.specs.Patch.{exceeds, within, Act, at_path, below, insert_child, insert_element, drop_child, drop_element, replaced}
+use Rattle.relay_patch.specs.Patch.{exceeds, within, Act, at_path, below, insert_child}
+use Rattle.relay_patch.specs.Patch.{insert_element, drop_child, drop_element, replaced}
 use Rattle.relay_patch.specs.declared.bounds.Bounds.{Bounds}
 use Rattle.relay_patch.specs.Change.{Makes, in_list, in_object, placed, inserted_at}
 use Rattle.relay_patch.specs.declared.change.Change.{Change}
 use Rattle.relay_patch.specs.declared.change.Change.TheVariants as change
-use Rattle.relay_patch.specs.Measure.{reach, displaced, gone, part_weight, name_weight, place_weight, new_name, lost, gained, judged, Known, Became}
+use Rattle.relay_patch.specs.Measure.{reach, displaced, gone, part_weight, name_weight}
+use Rattle.relay_patch.specs.Measure.{place_weight, new_name, lost, gained, judged, Known, Became}
 use Rattle.relay_patch.proofs.Refusals.{then_ok, then_itself, ok_or_some, ok_or_found, not_refused}
 use Rattle.relay_patch.proofs.Parts.{at_index, place_in_at_index}
 use Rattle.relay_patch.proofs.Sites.{parent-last}
 use Rattle.relay_patch.proofs.Inside.{was_inside}
-use Rattle.relay_patch.proofs.Exchanges.{replaced-step, walk-replaced, at_end, replaced-put, replaced_needs}
+use Rattle.relay_patch.proofs.Exchanges.{replaced-step, walk-replaced, at_end, replaced-put}
+use Rattle.relay_patch.proofs.Exchanges.{replaced_needs}
 use Rattle.relay_patch.proofs.Depths.{walk_depth}
 use Rattle.relay_patch.proofs.Tokens.{last_end}
 use Rattle.relay_patch.proofs.Walks.{at_reached, at_refused, walk-append}
@@ -30,7 +38,9 @@ use Rattle.std.specs.Result.{result_ok}
 use Rattle.std.proofs.lemmas.Bool.Decides.{nat_tests}
 use Rattle.relay_tree.proofs.Outcomes.{some_ok}
 use Rattle.relay_pointer.proofs.Tokens.{tokens_back}
-use Rattle.relay_tree.proofs.Sizes.{weight-least, put_item-weight, insert_item-sizes, add_member-weight, put_member-depth, drop_item-sizes, drop_member-sizes}
+use Rattle.relay_tree.proofs.Sizes.{weight-least, put_item-weight, insert_item-sizes}
+use Rattle.relay_tree.proofs.Sizes.{add_member-weight, put_member-depth, drop_item-sizes}
+use Rattle.relay_tree.proofs.Sizes.{drop_member-sizes}
 use Rattle.relay_pointer.proofs.Puts.{with_child-depth}
 
 -- A part replaced.

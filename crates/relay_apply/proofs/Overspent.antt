@@ -1,5 +1,7 @@
 -- Operations whose value alone weighs more than their change may.
-use Rattle.std.proofs.Common.{◌≡◌, ◌+◌, ℕ, Bool, true, false, Some, None, Result, Ok, Err, List, [], ◌∷◌, inl, inr, refl, sym, subst, ◌∙◌, arith, is_some, IsOk, if◌then◌else◌}
+use Rattle.std.proofs.Common.{◌≡◌, ◌+◌, ℕ, Bool, true, false, Some, None, Result, Ok, Err, List, []}
+use Rattle.std.proofs.Common.{◌∷◌, inl, inr, refl, sym, subst, ◌∙◌, arith, is_some, IsOk}
+use Rattle.std.proofs.Common.{if◌then◌else◌}
 use Rattle.relay_tree.specs.Document.{Document, weight}
 use Rattle.relay_tree.specs.Budget.{paid}
 use Rattle.relay_tree.specs.declared.budget.Budget.{Budget}

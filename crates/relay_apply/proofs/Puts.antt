@@ -1,5 +1,6 @@
 -- A value put at a place that has a member.
-use Rattle.std.proofs.Common.{◌≡◌, [], ◌∷◌, Bool, true, false, Option, Some, None, Ok, IsOk, refl, sym, subst, ◌∙◌, if◌then◌else◌, is_some}
+use Rattle.std.proofs.Common.{◌≡◌, [], ◌∷◌, Bool, true, false, Option, Some, None, Ok, IsOk, refl}
+use Rattle.std.proofs.Common.{sym, subst, ◌∙◌, if◌then◌else◌, is_some}
 use Rattle.relay_tree.specs.Document.{Document, object}
 use Rattle.relay_tree.specs.Part.{set_member}
 use Rattle.relay_pointer.specs.Index.{Token}

@@ -1,13 +1,19 @@
 -- A part that was removed from a container and is restored.
 use Rattle.std.specs.List.{insert}
-use Rattle.std.proofs.Common.{◌≡◌, ℕ, zero, suc, List, length, ◌≤◌, [], ◌∷◌, ◌++◌, Bool, true, false, Option, Some, None, Ok, String, Global, string_bytes, refl, sym, ap, ◌∙◌, ◌<◌, ◌^◌, nat_lt, if◌then◌else◌, arith}
+use Rattle.std.proofs.Common.{◌≡◌, ℕ, zero, suc, List, length, ◌≤◌, [], ◌∷◌, ◌++◌, Bool, true}
+use Rattle.std.proofs.Common.{false, Option, Some, None, Ok, String, Global, string_bytes, refl}
+use Rattle.std.proofs.Common.{sym, ap, ◌∙◌, ◌<◌, ◌^◌, nat_lt, if◌then◌else◌, arith}
 use Rattle.std.proofs.lemmas.Bool.Decides.{nat_tests}
-use Rattle.relay_tree.specs.Document.{Document, list, object, Items, no_items, item, items_of, Members}
-use Rattle.relay_tree.specs.Part.{items_length, item_at, insert_item, drop_item, member_at, drop_member, members_length, IsOrdered}
+use Rattle.relay_tree.specs.Document.{Document, list, object, Items, no_items, item, items_of}
+use Rattle.relay_tree.specs.Document.{Members}
+use Rattle.relay_tree.specs.Part.{items_length, item_at, insert_item, drop_item, member_at}
+use Rattle.relay_tree.specs.Part.{drop_member, members_length, IsOrdered}
 use Rattle.relay_tree.specs.Entries.{refilled_entries}
 use Rattle.relay_tree.specs.Seen.{members_of}
-use Rattle.relay_tree.proofs.Named.{Entry, members_length-members_of, members_of-insert_entry, add_member-drop, drop_member-shorter}
-use Rattle.relay_tree.proofs.Elements.{items_length-items_of, insert_item-items_of, insert_item-past, drop_item-shorter}
+use Rattle.relay_tree.proofs.Named.{Entry, members_length-members_of, members_of-insert_entry}
+use Rattle.relay_tree.proofs.Named.{add_member-drop, drop_member-shorter}
+use Rattle.relay_tree.proofs.Elements.{items_length-items_of, insert_item-items_of}
+use Rattle.relay_tree.proofs.Elements.{insert_item-past, drop_item-shorter}
 use Rattle.relay_pointer.specs.Index.{Token, index_of}
 use Rattle.relay_pointer.specs.Path.{Path, at, put}
 use Rattle.relay_pointer.proofs.Puts.{put-back}

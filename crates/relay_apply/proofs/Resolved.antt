@@ -1,5 +1,7 @@
 -- The place on which an operation acts, found at the end of a walk.
-use Rattle.std.proofs.Common.{◌≡◌, ◌-◌, ◌≤◌, List, [], ◌∷◌, ◌++◌, length, take, get_or, Bool, true, false, Option, Some, None, is_some, Bor, Result, Ok, Err, String, Global, string_bytes, refl, option_copied}
+use Rattle.std.proofs.Common.{◌≡◌, ◌-◌, ◌≤◌, List, [], ◌∷◌, ◌++◌, length, take, get_or, Bool, true}
+use Rattle.std.proofs.Common.{false, Option, Some, None, is_some, Bor, Result, Ok, Err, String}
+use Rattle.std.proofs.Common.{Global, string_bytes, refl, option_copied}
 use Rattle.std.specs.declared.vec.Vec.{Vec}
 use Rattle.relay_tree.specs.Document.{Document, list, object, Items, Members}
 use Rattle.relay_tree.specs.Seen.{document_of}
@@ -13,7 +15,8 @@ use Rattle.relay_pointer.specs.Path.{Path, path_of}
 use Rattle.relay_patch.specs.Walk.{then_do, walk}
 use Rattle.relay_patch.specs.declared.fault.Cause.{Cause}
 use Rattle.relay_apply.specs.declared.insert_target.InsertTarget.TheVariants as insert_target
-use Rattle.relay_apply.specs.Steps.{resolve_insert_in, resolve_insert, resolve_existing_in, resolve_existing}
+use Rattle.relay_apply.specs.Steps.{resolve_insert_in, resolve_insert, resolve_existing_in}
+use Rattle.relay_apply.specs.Steps.{resolve_existing}
 use Rattle.relay_patch.proofs.Tokens.{place_of-end, parent_end, last_end}
 use Rattle.relay_pointer.proofs.Tokens.{tokens_back, tokens_last}
 

@@ -1,13 +1,17 @@
 -- An element that slides within its list, past one neighbour at a time: this equals its removal and
 -- insertion, it is the move, and the element slides back.
-use Rattle.std.proofs.Common.{◌≡◌, ℕ, zero, suc, List, length, get_or, set, ◌≤◌, [], ◌∷◌, ◌++◌, Bool, true, ◌&&◌, Option, Some, None, ok_or, Ok, String, Global, refl, sym, ap, subst, ◌∙◌, ◌<◌, ◌^◌, max, arith, option_and_then}
+use Rattle.std.proofs.Common.{◌≡◌, ℕ, zero, suc, List, length, get_or, set, ◌≤◌, [], ◌∷◌, ◌++◌}
+use Rattle.std.proofs.Common.{Bool, true, ◌&&◌, Option, Some, None, ok_or, Ok, String, Global, refl}
+use Rattle.std.proofs.Common.{sym, ap, subst, ◌∙◌, ◌<◌, ◌^◌, max, arith, option_and_then}
 use Rattle.std.specs.List.{insert, remove, swap}
 use Rattle.std.proofs.lemmas.List.{get_or_default}
 use Rattle.std.proofs.lemmas.List.Edits.{swap_is, length-insert, length-remove}
 use Rattle.std.proofs.lemmas.Option.{slice_get_read}
 use Rattle.relay_tree.specs.Document.{Document, null, list, Items, items_of}
 use Rattle.relay_tree.specs.Part.{items_length, item_at, insert_item, drop_item}
-use Rattle.relay_tree.proofs.Elements.{slice_get-items_of, insert_item-items_of, drop_item-items_of, insert_item-none, drop_item-shorter, drop_item-insert, item_at-insert_same}
+use Rattle.relay_tree.proofs.Elements.{slice_get-items_of, insert_item-items_of, drop_item-items_of}
+use Rattle.relay_tree.proofs.Elements.{insert_item-none, drop_item-shorter, drop_item-insert}
+use Rattle.relay_tree.proofs.Elements.{item_at-insert_same}
 use Rattle.relay_pointer.specs.Index.{Token, index_of}
 use Rattle.relay_pointer.specs.Path.{Path, path_of, at, put}
 use Rattle.relay_pointer.proofs.Prefixes.{equal_paths}

@@ -1,5 +1,7 @@
 -- Whether a moved part returns to the place that it had.
-use Rattle.std.proofs.Common.{◌≡◌, ℕ, suc, [], ◌∷◌, ◌++◌, Bool, true, false, ◌&&◌, ◌||◌, Some, Result, Ok, refl, sym, ap, ◌∙◌, bytes_eq, nat_eq, ◌==◌, ◌<◌, ◌-◌, ◌+◌, ◌^◌, min, List, length, if◌then◌else◌, arith}
+use Rattle.std.proofs.Common.{◌≡◌, ℕ, suc, [], ◌∷◌, ◌++◌, Bool, true, false, ◌&&◌, ◌||◌, Some}
+use Rattle.std.proofs.Common.{Result, Ok, refl, sym, ap, ◌∙◌, bytes_eq, nat_eq, ◌==◌, ◌<◌, ◌-◌, ◌+◌}
+use Rattle.std.proofs.Common.{◌^◌, min, List, length, if◌then◌else◌, arith}
 use Rattle.std.proofs.lemmas.Bool.Decides.{nat_tests}
 use Rattle.relay_tree.specs.Document.{Document, null, list, object, Items, items_of}
 use Rattle.relay_tree.specs.Part.{items_length}

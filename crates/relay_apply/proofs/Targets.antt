@@ -1,5 +1,7 @@
 -- What the target of an insertion or a removal implies for the operation.
-use Rattle.std.proofs.Common.{◌≡◌, ℕ, ◌<◌, [], ◌∷◌, ◌++◌, Bool, true, false, Option, Some, None, is_some, ok_or, Result, Ok, Err, IsOk, refl, sym, ap, subst, ◌∙◌, nat_le, if◌then◌else◌, arith}
+use Rattle.std.proofs.Common.{◌≡◌, ℕ, ◌<◌, [], ◌∷◌, ◌++◌, Bool, true, false, Option, Some, None}
+use Rattle.std.proofs.Common.{is_some, ok_or, Result, Ok, Err, IsOk, refl, sym, ap, subst, ◌∙◌}
+use Rattle.std.proofs.Common.{nat_le, if◌then◌else◌, arith}
 use Rattle.std.specs.Result.{result_ok}
 use Rattle.std.proofs.lemmas.Bool.Decides.{nat_tests}
 use Rattle.relay_tree.specs.Document.{Document, null, truth, whole, text, list, object, Items}
@@ -8,13 +10,16 @@ use Rattle.relay_pointer.specs.Index.{Token, index_of}
 use Rattle.relay_pointer.specs.Path.{Path, at}
 use Rattle.relay_patch.specs.Walk.{then_do, is_dash, element, step, walk}
 use Rattle.relay_patch.specs.declared.fault.Cause.{Cause}
-use Rattle.relay_patch.specs.declared.fault.Cause.TheVariants.{Missing, NotIndex, PastEnd, NoContainer}
+use Rattle.relay_patch.specs.declared.fault.Cause.TheVariants.{Missing, NotIndex, PastEnd}
+use Rattle.relay_patch.specs.declared.fault.Cause.TheVariants.{NoContainer}
 use Rattle.relay_patch.specs.Place.{parent, last, place_within, place_of}
 use Rattle.relay_patch.specs.Patch.{at_path, added, insert_child, insert_element, drop_child}
 use Rattle.relay_patch.specs.Change.{added_change, removed_change}
 use Rattle.relay_patch.specs.declared.change.Change.TheVariants as change
 use Rattle.relay_apply.specs.declared.insert_target.InsertTarget.TheVariants as insert_target
-use Rattle.relay_apply.specs.Steps.{InsertTarget, index_within, insertion_index, resolve_insert_in, resolve_insert, is_list, resolve_existing_in, resolve_existing, final, is_item, insert_place, insertion, removal}
+use Rattle.relay_apply.specs.Steps.{InsertTarget, index_within, insertion_index, resolve_insert_in}
+use Rattle.relay_apply.specs.Steps.{resolve_insert, is_list, resolve_existing_in, resolve_existing}
+use Rattle.relay_apply.specs.Steps.{final, is_item, insert_place, insertion, removal}
 use Rattle.relay_patch.proofs.Refusals.{then_ok, ok_or_found}
 use Rattle.relay_patch.proofs.Walks.{at_reached}
 use Rattle.relay_patch.proofs.Parts.{no_dash}

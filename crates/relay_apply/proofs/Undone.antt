@@ -1,5 +1,7 @@
 -- A change whose record is kept does not alter the document that taking back restores.
-use Rattle.std.proofs.Common.{◌≡◌, ℕ, List, [], ◌∷◌, ◌++◌, Bool, true, false, Option, Some, None, Result, Ok, Err, ok_or, is_ok, IsOk, refl, sym, ap, subst, ◌∙◌, if◌then◌else◌, IsNone, IfSome, option_map, option_to_list}
+use Rattle.std.proofs.Common.{◌≡◌, ℕ, List, [], ◌∷◌, ◌++◌, Bool, true, false, Option, Some, None}
+use Rattle.std.proofs.Common.{Result, Ok, Err, ok_or, is_ok, IsOk, refl, sym, ap, subst, ◌∙◌}
+use Rattle.std.proofs.Common.{if◌then◌else◌, IsNone, IfSome, option_map, option_to_list}
 use Rattle.std.specs.Result.{result_ok}
 use Rattle.relay_tree.specs.Document.{Document, list, object, Items}
 use Rattle.relay_tree.specs.Part.{insert_item, member_at, add_member}
@@ -14,12 +16,14 @@ use Rattle.relay_patch.specs.declared.fault.Cause.{Cause}
 use Rattle.relay_patch.specs.declared.fault.Cause.TheVariants.{Missing, PastEnd}
 use Rattle.relay_patch.specs.Place.{parent, last}
 use Rattle.relay_patch.specs.declared.change.Place.{Place}
-use Rattle.relay_patch.specs.Patch.{Act, replaced, insert_child, insert_element, drop_child, below, at_path}
+use Rattle.relay_patch.specs.Patch.{Act, replaced, insert_child, insert_element, drop_child, below}
+use Rattle.relay_patch.specs.Patch.{at_path}
 use Rattle.relay_patch.specs.Change.{Makes, in_list, in_object, inserted, inserted_at}
 use Rattle.relay_patch.specs.declared.change.Change.{Change}
 use Rattle.relay_patch.specs.Measure.{displaced, gone}
 use Rattle.relay_apply.specs.declared.reinsertion.Reinsertion.{Reinsertion}
-use Rattle.relay_apply.specs.Undo.{target, undo_of_put, removed_part, reinserted, put_undone, transfer_undone, undone, taken_back}
+use Rattle.relay_apply.specs.Undo.{target, undo_of_put, removed_part, reinserted, put_undone}
+use Rattle.relay_apply.specs.Undo.{transfer_undone, undone, taken_back}
 use Rattle.relay_apply.specs.declared.undo.Undo.{Undo}
 use Rattle.relay_patch.specs.declared.change.Change.TheVariants as change
 use Rattle.relay_patch.proofs.Refusals.{then_ok, ok_or_some}

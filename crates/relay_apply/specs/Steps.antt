@@ -1,5 +1,7 @@
 -- Definitions by which the functions of this crate state what their steps do.
-use Rattle.std.specs.Prelude.{ℕ, List, [], ◌∷◌, ◌++◌, Bool, true, false, Option, Some, None, Result, Ok, Err, is_some, ◌≡◌, IsOk, ◌⊎◌, if◌then◌else◌, nat_le, nat_lt, ◌+◌, ◌==◌, ◌&&◌, ◌||◌, bytes_eq}
+use Rattle.std.specs.Prelude.{ℕ, List, [], ◌∷◌, ◌++◌, Bool, true, false, Option, Some, None, Result}
+use Rattle.std.specs.Prelude.{Ok, Err, is_some, ◌≡◌, IsOk, ◌⊎◌, if◌then◌else◌, nat_le, nat_lt, ◌+◌}
+use Rattle.std.specs.Prelude.{◌==◌, ◌&&◌, ◌||◌, bytes_eq}
 use Rattle.relay_tree.specs.Document.{Document, list, object, weight}
 use Rattle.relay_tree.specs.Part.{items_length, member_at}
 use Rattle.relay_tree.specs.Budget.{paid}
@@ -8,7 +10,8 @@ use Rattle.relay_pointer.specs.Index.{Token, index_of, index_text}
 use Rattle.relay_pointer.specs.Path.{Path}
 use Rattle.relay_patch.specs.Walk.{then_do, is_dash, step, walk}
 use Rattle.relay_patch.specs.declared.fault.Cause.{Cause}
-use Rattle.relay_patch.specs.declared.fault.Cause.TheVariants.{NotIndex, PastEnd, NoContainer, Root, TooHeavy}
+use Rattle.relay_patch.specs.declared.fault.Cause.TheVariants.{NotIndex, PastEnd, NoContainer, Root}
+use Rattle.relay_patch.specs.declared.fault.Cause.TheVariants.{TooHeavy}
 use Rattle.relay_patch.specs.Place.{parent, last}
 use Rattle.relay_patch.specs.declared.change.Place.{Place}
 use Rattle.relay_patch.specs.Patch.{effect}

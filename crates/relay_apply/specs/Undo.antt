@@ -1,10 +1,12 @@
 -- How changes are taken back: a replaced part is put back, an inserted value is dropped, a removed
 -- one is reinserted, a transferred one is removed from where it was put and reinserted where it was
 -- before, and an element that slid within its list slides back.
-use Rattle.std.specs.Prelude.{ℕ, List, [], ◌∷◌, Option, Some, None, option_map, option_and_then, Result, Ok, Err, nat_lt, if◌then◌else◌, vec_capacity, string_bytes}
+use Rattle.std.specs.Prelude.{ℕ, List, [], ◌∷◌, Option, Some, None, option_map, option_and_then}
+use Rattle.std.specs.Prelude.{Result, Ok, Err, nat_lt, if◌then◌else◌, vec_capacity, string_bytes}
 use Rattle.std.specs.Result.{result_ok}
 use Rattle.relay_tree.specs.Document.{Document, list, object, Items}
-use Rattle.relay_tree.specs.Part.{items_length, item_at, insert_item, drop_item, members_length, add_member}
+use Rattle.relay_tree.specs.Part.{items_length, item_at, insert_item, drop_item, members_length}
+use Rattle.relay_tree.specs.Part.{add_member}
 use Rattle.relay_pointer.specs.Index.{Token}
 use Rattle.relay_pointer.specs.Path.{Path, at, put}
 use Rattle.relay_patch.specs.declared.fault.Cause.{Cause}
@@ -31,7 +33,7 @@ abbrev pub undo_of_put : Path → Option Document → Undo
 undo_of_put path (Some part) = undo.Part path part
 undo_of_put path None = undo.Inserted path
 
--- the part that the change removed or replaced
+-- the part that the change removed or replaced; of a transfer, what the moved value replaced
 abbrev pub removed_part : Undo → Option Document
 removed_part (undo.Part path part) = Some part
 removed_part (undo.Inserted path) = None

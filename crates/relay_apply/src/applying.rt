@@ -1,5 +1,6 @@
 //! Application of patches: all operations of a patch, or none.
-ghost use Rattle.std.specs.Prelude.{◌≡◌, ◌≢◌, ◌<◌, ◌-◌, ◌^◌, Ok, Err, Some, IsSome, IfOk, IfErr, OnOk, OnErr};
+ghost use Rattle.std.specs.Prelude.{◌≡◌, ◌≢◌, ◌<◌, ◌-◌, ◌^◌, Ok, Err, Some, IsSome, IfOk, IfErr};
+ghost use Rattle.std.specs.Prelude.{OnOk, OnErr};
 ghost use Rattle.std.specs.List.{AllByRecursion};
 ghost use Rattle.relay_tree.specs.Budget.{paid};
 ghost use Rattle.relay_tree.specs.Document.{weight};
@@ -30,10 +31,11 @@ use std::alloc::Global;
 /// The tree is changed in place. An operation costs its paths, what it removes, and two copies of
 /// its value: one in the change, and one in the tree; a move copies its value for the change alone.
 /// An insertion or a removal shifts the later parts of its container. A move within one list by at
-/// most 64 places swaps neighbours. If an operation is refused, the earlier ones are undone. A
-/// removal reserves the memory for its undo before it is made; that memory is hardly ever used.
-/// The document is measured once, as far as there are bounds, and again after the first change if
-/// it was outside them. After that, only what an operation changed is measured.
+/// most 64 places swaps neighbours; a longer one takes the element out and puts it in. If an
+/// operation is refused, the earlier ones are undone. A removal reserves the memory for its undo
+/// before it is made; that memory is hardly ever used. The document is measured once, as far as
+/// there are bounds, and again after the first change if it was outside them. After that, only what
+/// an operation changed is measured.
 ///
 /// ```
 /// let mut board = read(alloc, r#"{"cards": ["a", "b"]}"#).ok()?;

@@ -2,7 +2,8 @@
 //! change. Nothing here changes a tree.
 ghost use Rattle.std.specs.Prelude.{◌≡◌, IsOk, IfOk, IfErr, OnOk};
 ghost use Rattle.relay_patch.specs.Patch.{effect};
-ghost use Rattle.relay_patch.specs.declared.op.Op.TheVariants.{Add, Remove, Replace, Move, Copy, Test};
+ghost use Rattle.relay_patch.specs.declared.op.Op.TheVariants.{Add, Remove, Replace, Move, Copy};
+ghost use Rattle.relay_patch.specs.declared.op.Op.TheVariants.{Test};
 ghost use Rattle.relay_patch.specs.Change.{changes_of};
 ghost use Rattle.relay_patch.specs.Walk.{Refuses};
 ghost use Rattle.relay_apply.specs.Steps.{insert_place, insertion, listed, removal};
@@ -10,7 +11,7 @@ ghost use Rattle.relay_patch.specs.declared.change.Change.TheVariants as change;
 
 use crate::insert_place::insert_place;
 use crate::insert_target::{InsertTarget, is_item_at, resolve_existing, resolve_insert};
-use crate::moving::{resolve_insert_without, stays};
+use crate::moving::{resolve_insert_after_removal, stays};
 use crate::walk::walk;
 use relay_patch::{Cause, Change, Op, Place};
 use relay_pointer::Pointer;
@@ -92,7 +93,7 @@ fn change_of_move(
     if stays(tree, from.tokens(), path.tokens()) {
         return Ok(None);
     }
-    let insert_target = resolve_insert_without(tree, from.tokens(), path.tokens())?;
+    let insert_target = resolve_insert_after_removal(tree, from.tokens(), path.tokens())?;
     let item = is_item_at(tree, from.tokens());
     Ok(Some(relocation(alloc, from, item, path, insert_target, value)?))
 }

@@ -3,7 +3,8 @@
 ghost use Rattle.std.specs.Prelude.{◌≡◌, ◌≢◌, ◌<◌, ◌≤◌, ◌-◌, ◌^◌, IfOk, IfErr};
 ghost use Rattle.relay_pointer.specs.Path.{path_of};
 ghost use Rattle.relay_patch.specs.Place.{place_of};
-ghost use Rattle.relay_apply.specs.Steps.{insertion_index, resolve_insert_in, resolve_insert, resolve_existing_in, resolve_existing};
+ghost use Rattle.relay_apply.specs.Steps.{insertion_index, resolve_insert_in, resolve_insert};
+ghost use Rattle.relay_apply.specs.Steps.{resolve_existing_in, resolve_existing};
 ghost use Rattle.relay_patch.specs.declared.fault.Cause.TheVariants.{NoMemory};
 
 use crate::walk::{is_dash, step, walk};

@@ -4,7 +4,8 @@
 //! A move within one list slides the element to its new index. Any other move is a transfer, of two
 //! steps: the value is removed, and then put at its new place. If the second step runs out of
 //! memory, the value goes back.
-ghost use Rattle.std.specs.Prelude.{◌≡◌, ◌<◌, false, is_some, Ok, Some, OnOk, OnErr, IfOk, IfErr, IfSome, IsOk, vec_len, vec_capacity};
+ghost use Rattle.std.specs.Prelude.{◌≡◌, ◌<◌, false, is_some, Ok, Some, OnOk, OnErr, IfOk, IfErr};
+ghost use Rattle.std.specs.Prelude.{IfSome, IsOk, vec_len, vec_capacity};
 ghost use Rattle.relay_tree.specs.Document.{Document};
 ghost use Rattle.relay_patch.specs.Measure.{displaced, gone, is_transfer};
 ghost use Rattle.relay_patch.specs.Change.{Makes, inserted};

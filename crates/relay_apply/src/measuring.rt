@@ -1,9 +1,12 @@
 //! Checks of the bounds on a document, which is measured as a whole or from what a change added and
 //! removed.
-ghost use Rattle.std.specs.Prelude.{◌≡◌, ◌≢◌, ◌<◌, ◌≤◌, ◌-◌, ◌+◌, ◌^◌, Some, Ok, Err, OnOk, IfOk, IfErr, IsOk, false, length, option_copied};
+ghost use Rattle.std.specs.Prelude.{◌≡◌, ◌≢◌, ◌<◌, ◌≤◌, ◌-◌, ◌+◌, ◌^◌, Some, Ok, Err, OnOk, IfOk};
+ghost use Rattle.std.specs.Prelude.{IfErr, IsOk, false, length, option_copied};
 ghost use Rattle.relay_tree.specs.Document.{Document, depth, weight, saturated};
 ghost use Rattle.relay_patch.specs.Patch.{within, exceeds};
-ghost use Rattle.relay_patch.specs.Measure.{reach, displaced, gone, is_transfer, Known, lost, gained, part_weight, name_weight, place_weight, new_name, judged, Became};
+ghost use Rattle.relay_patch.specs.Measure.{reach, displaced, gone, is_transfer, Known, lost};
+ghost use Rattle.relay_patch.specs.Measure.{gained, part_weight, name_weight, place_weight};
+ghost use Rattle.relay_patch.specs.Measure.{new_name, judged, Became};
 ghost use Rattle.relay_patch.specs.declared.fault.Cause.TheVariants.{NoMemory};
 
 use relay_patch::{Bounds, Cause, Change, Place};

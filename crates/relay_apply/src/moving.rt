@@ -6,7 +6,8 @@ ghost use Rattle.relay_pointer.specs.Path.{path_of, is_proper_prefix, same_path}
 ghost use Rattle.relay_patch.specs.Walk.{step, walk};
 ghost use Rattle.relay_patch.specs.Place.{place_of};
 ghost use Rattle.relay_patch.specs.Patch.{at_path, drop_child};
-ghost use Rattle.relay_apply.specs.Steps.{resolve_insert_in, resolve_insert, shifted, is_end, ends, is_same_end};
+ghost use Rattle.relay_apply.specs.Steps.{resolve_insert_in, resolve_insert, shifted, is_end, ends};
+ghost use Rattle.relay_apply.specs.Steps.{is_same_end};
 ghost use Rattle.relay_patch.specs.declared.fault.Cause.TheVariants.{NoMemory};
 
 use crate::insert_target::{InsertTarget, insertion_index, resolve_insert, resolve_insert_in};
@@ -16,7 +17,7 @@ use relay_pointer::{index_of, same_path};
 use relay_tree::{Node, Tree};
 
 /// Returns where an insertion at the path would go after the part at `from` is removed.
-pub(crate) fn resolve_insert_without(
+pub(crate) fn resolve_insert_after_removal(
     tree: &Tree,
     from: &[String],
     path: &[String],
@@ -35,13 +36,13 @@ pub(crate) fn resolve_insert_without(
     };
     if onward.is_empty() {
         return if deeper.is_empty() {
-            resolve_insert_beside(tree, gone.as_str(), token.as_str())
+            resolve_insert_in_after_removal(tree, gone.as_str(), token.as_str())
         } else {
             resolve_insert_in(tree, token.as_str())
         };
     }
     if deeper.is_empty() {
-        return match step_beside(tree, gone.as_str(), token.as_str()) {
+        return match step_after_removal(tree, gone.as_str(), token.as_str()) {
             Ok(part) => resolve_insert(part, onward),
             Err(cause) => Err(cause),
         };
@@ -49,7 +50,7 @@ pub(crate) fn resolve_insert_without(
     match step(tree, token.as_str()) {
         Ok(part) => {
             if gone == token {
-                resolve_insert_without(part, deeper, onward)
+                resolve_insert_after_removal(part, deeper, onward)
             } else {
                 resolve_insert(part, onward)
             }
@@ -59,7 +60,11 @@ pub(crate) fn resolve_insert_without(
 }
 
 // Where a token would insert in a container after the part `gone` is removed.
-fn resolve_insert_beside(container: &Tree, gone: &str, token: &str) -> Result<InsertTarget, Cause>
+fn resolve_insert_in_after_removal(
+    container: &Tree,
+    gone: &str,
+    token: &str,
+) -> Result<InsertTarget, Cause>
     requires { bytes_eq gone.now token.now ≡ false }
     ensures insert_target { (rest : Document) → drop_child gone.now container.now ≡ Ok rest
         → result ≡ resolve_insert_in rest token.now }
@@ -75,7 +80,7 @@ fn resolve_insert_beside(container: &Tree, gone: &str, token: &str) -> Result<In
 }
 
 // The part that a token would name in a container after the part `gone` is removed.
-fn step_beside<'t>(container: &'t Tree, gone: &str, token: &str) -> Result<&'t Tree, Cause>
+fn step_after_removal<'t>(container: &'t Tree, gone: &str, token: &str) -> Result<&'t Tree, Cause>
     requires { bytes_eq gone.now token.now ≡ false }
     ensures ok { IfOk result (λ part. (rest : Document)
         → drop_child gone.now container.now ≡ Ok rest → step rest token.now ≡ Ok part.now) }

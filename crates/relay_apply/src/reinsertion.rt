@@ -1,6 +1,7 @@
 //! Removals that can be taken back: what puts the value back is allocated before it is removed, so
 //! that nothing has to be allocated then.
-ghost use Rattle.std.specs.Prelude.{◌≡◌, ◌^◌, ◌<◌, ℕ, Ok, Some, IsOk, IfOk, OnOk, OnErr, vec_len, vec_capacity, string_bytes};
+ghost use Rattle.std.specs.Prelude.{◌≡◌, ◌^◌, ◌<◌, ℕ, Ok, Some, IsOk, IfOk, OnOk, OnErr, vec_len};
+ghost use Rattle.std.specs.Prelude.{vec_capacity, string_bytes};
 ghost use Rattle.relay_tree.specs.Document.{Items, Members as members_type, list, object, items_of};
 ghost use Rattle.relay_tree.specs.Part.{items_length, members_length, IsOrdered};
 ghost use Rattle.relay_tree.specs.Seen.{document_of};
@@ -9,7 +10,8 @@ ghost use Rattle.relay_pointer.specs.Path.{path_of, at};
 ghost use Rattle.relay_patch.specs.Walk.{walk};
 ghost use Rattle.relay_patch.specs.Patch.{at_path, drop_child};
 ghost use Rattle.relay_patch.specs.Change.{in_list, in_object, dropped};
-ghost use Rattle.relay_apply.specs.Undo.{reinserted_items, reinserted_item, reinserted_member, with_part, reinserted};
+ghost use Rattle.relay_apply.specs.Undo.{reinserted_items, reinserted_item, reinserted_member};
+ghost use Rattle.relay_apply.specs.Undo.{with_part, reinserted};
 
 use crate::making::remove_at;
 use crate::walk::walk;

@@ -1,7 +1,8 @@
 //! Moves within one list: an element slides from its place to another. No tree is moved or copied,
 //! only pointers to elements. Over a few places the element is exchanged with its neighbours; over
 //! more, the elements behind each place move as a block.
-ghost use Rattle.std.specs.Prelude.{◌≡◌, ◌<◌, ◌^◌, ℕ, true, Some, None, length, OnOk, OnErr, IfOk, vec_len};
+ghost use Rattle.std.specs.Prelude.{◌≡◌, ◌<◌, ◌^◌, ℕ, true, Some, None, length, OnOk, OnErr, IfOk};
+ghost use Rattle.std.specs.Prelude.{vec_len};
 ghost use Rattle.relay_tree.specs.Document.{Document, list, Items, items_of};
 ghost use Rattle.relay_tree.specs.Part.{items_length};
 ghost use Rattle.relay_tree.specs.Seen.{document_of};

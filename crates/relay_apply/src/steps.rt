@@ -1,6 +1,7 @@
 //! One operation of a patch: its checks, the change that it makes, and the bounds on the document
 //! after it.
-ghost use Rattle.std.specs.Prelude.{◌≡◌, ◌≢◌, ◌<◌, ◌+◌, ◌++◌, ◌∷◌, [], Ok, Err, Some, false, IsOk, IsSome, OnOk, OnErr, IfOk, IfErr, IfSome, IfNone, None};
+ghost use Rattle.std.specs.Prelude.{◌≡◌, ◌≢◌, ◌<◌, ◌+◌, ◌++◌, ◌∷◌, [], Ok, Err, Some, false, IsOk};
+ghost use Rattle.std.specs.Prelude.{IsSome, OnOk, OnErr, IfOk, IfErr, IfSome, IfNone, None};
 ghost use Rattle.relay_tree.specs.Document.{Document, weight};
 ghost use Rattle.relay_tree.specs.Budget.{paid};
 ghost use Rattle.relay_tree.specs.declared.budget.Budget.{Budget};
@@ -39,7 +40,7 @@ pub(crate) struct Done {
 }
 
 /// Performs one operation, which `following` others follow, and checks the bounds. Keeps what takes
-/// it back, if others follow.
+/// it back if others follow, and for a transfer in any case.
 #[tactic(auto, using(crate::proofs::Overspent::overspent))]
 pub(crate) fn perform(
     alloc: Global,

@@ -2,7 +2,8 @@
 ghost use Rattle.std.specs.Prelude.{◌≡◌, None, option_map, option_copied, IfNone};
 ghost use Rattle.relay_pointer.specs.Path.{path_of, put};
 ghost use Rattle.relay_patch.specs.Patch.{at_path, drop_child};
-ghost use Rattle.relay_apply.specs.Undo.{undo_of_put, removed_part, or_same, put_undone, transfer_undone, undone, taken_back};
+ghost use Rattle.relay_apply.specs.Undo.{undo_of_put, removed_part, or_same, put_undone};
+ghost use Rattle.relay_apply.specs.Undo.{transfer_undone, undone, taken_back};
 
 use crate::insert_target::resolve_existing;
 use crate::making::remove_at;

@@ -1,4 +1,5 @@
-use Rattle.std.proofs.Common.{◌≡◌, ◌-◌, ◌++◌, [], ◌∷◌, length, take, string_bytes, refl, sym, ap, ◌∙◌}
+use Rattle.std.proofs.Common.{◌≡◌, ◌-◌, ◌++◌, [], ◌∷◌, length, take, string_bytes, refl, sym, ap}
+use Rattle.std.proofs.Common.{◌∙◌}
 use Rattle.relay_pointer.specs.Path.{path_of}
 use Rattle.relay_apply.specs.Steps.{final}
 use Rattle.relay_apply.proofs.Targets.{placed_at}

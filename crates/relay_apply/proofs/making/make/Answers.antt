@@ -1,5 +1,6 @@
 use Rattle.std.proofs.Common.{sym}
-use Rattle.relay_patch.proofs.Carried.{passes_as, makes_as, moves_as, stays_in_list, slid_makes, slid_gone}
+use Rattle.relay_patch.proofs.Carried.{passes_as, makes_as, moves_as, stays_in_list, slid_makes}
+use Rattle.relay_patch.proofs.Carried.{slid_gone}
 use Rattle.relay_patch.proofs.Exchanges.{replaced_needs}
 use Rattle.relay_patch.proofs.Walks.{at_reached}
 use Rattle.relay_apply.proofs.making.make.Goals as goal

@@ -2,7 +2,8 @@ use Rattle.std.proofs.Common.{◌≡◌, length, vec_capacity, ◌∙◌, arith}
 use Rattle.std.specs.List.{insert}
 use Rattle.relay_apply.proofs.Reinserted.{no_space, past_end, with_space}
 use Rattle.relay_apply.proofs.reinsertion.reinsert_item.Goals as goal
-use Rattle.relay_apply.proofs.reinsertion.reinsert_item.Goals.{then-len-capacity-via-then-len-capacity, then-len-capacity-via-else-len-capacity+then-index-len}
+use Rattle.relay_apply.proofs.reinsertion.reinsert_item.Goals.{then-len-capacity-via-then-len-capacity}
+use Rattle.relay_apply.proofs.reinsertion.reinsert_item.Goals.{then-len-capacity-via-else-len-capacity+then-index-len}
 
 pub returns-then-len-capacity : goal.returns-then-len-capacity
 returns-then-len-capacity c =

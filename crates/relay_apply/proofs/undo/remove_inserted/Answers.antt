@@ -1,6 +1,7 @@
 use Rattle.std.proofs.Common.{refl, sym, ◌∙◌}
 use Rattle.relay_pointer.specs.Path.{path_of}
-use Rattle.relay_apply.proofs.Undone.{existing_drops, missing_refuses, undoes_insert, undoes_no_insert}
+use Rattle.relay_apply.proofs.Undone.{existing_drops, missing_refuses, undoes_insert}
+use Rattle.relay_apply.proofs.Undone.{undoes_no_insert}
 use Rattle.relay_apply.proofs.undo.remove_inserted.Goals as goal
 
 pub remove_at-requires : goal.remove_at-requires

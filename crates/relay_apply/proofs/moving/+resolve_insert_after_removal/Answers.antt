@@ -1,8 +1,9 @@
 use Rattle.std.proofs.Common.{◌∷◌, string_bytes, sym, ap, ◌∙◌}
 use Rattle.relay_tree.proofs.Names.{equal_bytes}
 use Rattle.relay_pointer.specs.Path.{path_of}
-use Rattle.relay_apply.proofs.InsertWithout.{path_ends, from_ends, from_ends_refused, both_go_on, paths_part, path_breaks}
-use Rattle.relay_apply.proofs.moving.+resolve_insert_without.Goals as goal
+use Rattle.relay_apply.proofs.InsertWithout.{path_ends, from_ends, from_ends_refused, both_go_on}
+use Rattle.relay_apply.proofs.InsertWithout.{paths_part, path_breaks}
+use Rattle.relay_apply.proofs.moving.+resolve_insert_after_removal.Goals as goal
 use Rattle.relay_pointer.proofs.Tokens.{tokens_front, no_tokens, some_tokens}
 
 pub returns-else-is_empty-2-clause-insert_target : goal.returns-else-is_empty-2-clause-insert_target
@@ -68,7 +69,7 @@ returns-then-eq-clause-insert_target t c =
     goes same (rw c.as_str-2.ensures.value at c.in-Ok-step.ensures.ok) (rw (
       onward.2,
       deeper.2,
-    ) at c.resolve_insert_without.ensures.insert_target)
+    ) at c.resolve_insert_after_removal.ensures.insert_target)
 
 pub returns-else-eq-clause-insert_target : goal.returns-else-eq-clause-insert_target
 returns-else-eq-clause-insert_target t c =

@@ -2,7 +2,7 @@ use Rattle.std.proofs.Common.{Ok, sym, ap, ◌∙◌}
 use Rattle.relay_apply.specs.declared.insert_target.InsertTarget.TheVariants.{Item}
 use Rattle.relay_patch.specs.Walk.{then_do}
 use Rattle.relay_apply.proofs.Drops.{resolve_insert_in-shorter, resolve_insert_in-fewer}
-use Rattle.relay_apply.proofs.moving.resolve_insert_beside.Goals as goal
+use Rattle.relay_apply.proofs.moving.resolve_insert_in_after_removal.Goals as goal
 
 pub returns-in-Ok-clause-insert_target : goal.returns-in-Ok-clause-insert_target
 returns-in-Ok-clause-insert_target c =

@@ -2,7 +2,7 @@ use Rattle.std.proofs.Common.{sym, ◌∙◌}
 use Rattle.relay_patch.specs.declared.fault.Cause.TheVariants.{Missing}
 use Rattle.relay_apply.proofs.Drops.{steps_behind, steps_beside}
 use Rattle.relay_patch.proofs.Refusals.{if_found, if_missing}
-use Rattle.relay_apply.proofs.moving.step_beside.Goals as goal
+use Rattle.relay_apply.proofs.moving.step_after_removal.Goals as goal
 use Rattle.relay_tree.proofs.Outcomes.{if_ok, if_err}
 
 pub returns-in-Some-clause-ok : goal.returns-in-Some-clause-ok
