@@ -1,5 +1,8 @@
 -- Which requests are accepted.
-use Rattle.std.proofs.Common.{◌≡◌, ℕ, Bool, true, false, not, IsTrue, List, [], ◌∷◌, ◌++◌, ◌&&◌, ◌||◌, ◌==◌, length, codes, bytes_eq, nat_le, Option, Some, None, is_some, is_none, Result, Ok, Err, refl, sym, ◌∙◌, ap, subst, arith, if◌then◌else◌, option_and_then}
+use Rattle.std.proofs.Common.{◌≡◌, ℕ, Bool, true, false, not, IsTrue, List, [], ◌∷◌, ◌++◌, ◌&&◌}
+use Rattle.std.proofs.Common.{◌||◌, ◌==◌, length, codes, bytes_eq, nat_le, Option, Some, None}
+use Rattle.std.proofs.Common.{is_some, is_none, Result, Ok, Err, refl, sym, ◌∙◌, ap, subst, arith}
+use Rattle.std.proofs.Common.{if◌then◌else◌, option_and_then}
 use Rattle.std.proofs.lemmas.Bool.{eqb-true}
 use Rattle.std.proofs.lemmas.Bool.Decides.{nat_tests}
 use Rattle.std.proofs.lemmas.Slice.Eq.{bytes_eq-Decides}
@@ -7,22 +10,29 @@ use Rattle.httparse.specs.Grammar.{RequestHead}
 use Rattle.relay_http_head.specs.Checks.{first_failed}
 use Rattle.relay_http_head.specs.Head.{Fields, count_of, first_value, only_value, has_field, kept}
 use Rattle.relay_http_head.specs.Parsing.{Parts, parts_of}
-use Rattle.relay_admin.specs.Admitted.{IsAdmitted, AdmitsExactly, fields_of, asked_method, HasTarget, HasFields, IsPatch}
+use Rattle.relay_admin.specs.Admitted.{IsAdmitted, AdmitsExactly, fields_of, asked_method}
+use Rattle.relay_admin.specs.Admitted.{HasTarget, HasFields, IsPatch}
 use Rattle.relay_admin.specs.Asked.{AnswersHead}
 use Rattle.relay_admin.specs.Conditions.{listed}
-use Rattle.relay_admin.specs.Edits.{is_json_patch, number_of, length_of, is_short, length_checks, length_by, length_asked, edit_checks}
+use Rattle.relay_admin.specs.Edits.{is_json_patch, number_of, length_of, is_short, length_checks}
+use Rattle.relay_admin.specs.Edits.{length_by, length_asked, edit_checks}
 use Rattle.relay_admin.specs.Host.{is_loopback}
 use Rattle.relay_admin.specs.Query.{path_of, query_of, pointer_in}
 use Rattle.relay_admin.specs.Cut.{behind}
 use Rattle.relay_admin.proofs.Prefixes.{behind_is}
-use Rattle.relay_admin.specs.Route.{Asked, request, forget, part, edit, admit, exclude, target_of, method_of, request_at, Place, at_path, at_room, at_door, named_by, place_by, place_at, takes}
-use Rattle.relay_admin.specs.Verdict.{Judged, accept, checks, placed_by, placed, part_by, part_asked, edit_by, edit_asked, room_asked, door_asked, asked_at, verdict_by, verdict_of, has_method}
+use Rattle.relay_admin.specs.Route.{Asked, request, forget, part, edit, admit, exclude, target_of}
+use Rattle.relay_admin.specs.Route.{method_of, request_at, Place, at_path, at_room, at_door}
+use Rattle.relay_admin.specs.Route.{named_by, place_by, place_at, takes}
+use Rattle.relay_admin.specs.Verdict.{Judged, accept, checks, placed_by, placed, part_by}
+use Rattle.relay_admin.specs.Verdict.{part_asked, edit_by, edit_asked, room_asked, door_asked}
+use Rattle.relay_admin.specs.Verdict.{asked_at, verdict_by, verdict_of, has_method}
 use Rattle.relay_admin.specs.declared.answer.Ask.{Ask}
 use Rattle.relay_admin.specs.declared.checks.TheConstants.{MAX_FIELDS}
 use Rattle.relay_admin.specs.declared.room.edit.TheConstants.{MAX_BODY}
 use Rattle.relay_admin.specs.declared.admin_fault.AdminFault.{AdminFault}
 use Rattle.relay_admin.specs.declared.request.AdminRequest.{AdminRequest}
-use Rattle.relay_admin.specs.declared.request.AdminRequest.TheVariants.{Health, Metrics, Rooms, Wanted, Open, Stop}
+use Rattle.relay_admin.specs.declared.request.AdminRequest.TheVariants.{Health, Metrics, Rooms}
+use Rattle.relay_admin.specs.declared.request.AdminRequest.TheVariants.{Wanted, Open, Stop}
 
 -- each check passes
 abbrev pub Passed : List (Bool × AdminFault) → Type 0

@@ -1,5 +1,6 @@
 -- The tokens of a JSON text can be written, one after another.
-use Rattle.std.proofs.Common.{◌≡◌, ℕ, List, [], ◌∷◌, ◌++◌, append_assoc, ◌∙◌, ap, Option, Some, None, refl, sym, subst, IsSome}
+use Rattle.std.proofs.Common.{◌≡◌, ℕ, List, [], ◌∷◌, ◌++◌, append_assoc, ◌∙◌, ap, Option, Some}
+use Rattle.std.proofs.Common.{None, refl, sym, subst, IsSome}
 use Rattle.json.specs.Json.{Json, document}
 use Rattle.json.specs.Lex.{tokens}
 use Rattle.json.specs.Print.{ArePrintable}

@@ -1,5 +1,7 @@
 -- Lookups in a router of literal routes.
-use Rattle.std.proofs.Common.{◌≡◌, ℕ, suc, ◌<◌, ◌≤◌, ◌&&◌, Bool, true, false, cond, List, [], ◌∷◌, length, Option, Some, None, refl, ◌∙◌, ap, ne_eqb, arith, ◌==◌, bytes_eq, if◌then◌else◌, option_map, nat_lt}
+use Rattle.std.proofs.Common.{◌≡◌, ℕ, suc, ◌<◌, ◌≤◌, ◌&&◌, Bool, true, false, cond, List, [], ◌∷◌}
+use Rattle.std.proofs.Common.{length, Option, Some, None, refl, ◌∙◌, ap, ne_eqb, arith, ◌==◌}
+use Rattle.std.proofs.Common.{bytes_eq, if◌then◌else◌, option_map, nat_lt}
 use Rattle.std.specs.List.{list_all}
 use Rattle.std.proofs.lemmas.Bool.Decides.{nat_tests}
 use Rattle.matchit.specs.Rows.{RowsOf}
@@ -7,7 +9,8 @@ use Rattle.matchit.specs.Router.{RouteOf}
 use Rattle.relay_http_head.proofs.Routes.{IsPlain, or-none, nil-step, seek-nil}
 use Rattle.relay_admin.specs.Route.{target_of, request_at}
 use Rattle.relay_admin.specs.declared.request.AdminRequest.{AdminRequest}
-use Rattle.relay_admin.specs.declared.request.AdminRequest.TheVariants.{Health, Metrics, Rooms, Wanted, Open, Stop}
+use Rattle.relay_admin.specs.declared.request.AdminRequest.TheVariants.{Health, Metrics, Rooms}
+use Rattle.relay_admin.specs.declared.request.AdminRequest.TheVariants.{Wanted, Open, Stop}
 use Rattle.matchit.specs.Seek.{seek, param_step, step, own, has_slash}
 
 abbrev pub ArePlain : {K : Type 0} → RowsOf K → Type 0

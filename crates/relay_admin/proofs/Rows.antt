@@ -8,7 +8,8 @@ use Rattle.relay_admin.specs.Conditions.{listed}
 use Rattle.relay_admin.specs.Edits.{is_json_patch, number_of}
 use Rattle.relay_admin.specs.Outcome.{outcome_of}
 use Rattle.relay_admin.specs.Query.{path_of, query_of, pointer_in}
-use Rattle.relay_admin.specs.declared.outcome.Outcome.TheVariants.{Accepted, Stale, Malformed, Unprocessable}
+use Rattle.relay_admin.specs.declared.outcome.Outcome.TheVariants.{Accepted, Stale, Malformed}
+use Rattle.relay_admin.specs.declared.outcome.Outcome.TheVariants.{Unprocessable}
 
 -- the path, and the query behind the first `?`
 path : path_of (codes "r?at=/a?b") ≡ codes "r"

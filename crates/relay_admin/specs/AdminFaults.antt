@@ -2,7 +2,14 @@
 -- RFC 6585, section 5).
 use Rattle.std.specs.Prelude.{ℕ, List, [], codes}
 use Rattle.relay_admin.specs.declared.admin_fault.AdminFault.{AdminFault}
-use Rattle.relay_admin.specs.declared.admin_fault.AdminFault.TheVariants.{NoHead, TooLong, NoHost, OtherHost, Origin, NoPath, OnlyGet, OnlyPost, OnlyRoomMethods, OnlyDoorMethods, BadQuery, Expectation, MediaType, NoLength, BadLength, BodyTooLong}
+use Rattle.relay_admin.specs.declared.admin_fault.AdminFault.TheVariants.{NoHead, TooLong, NoHost}
+use Rattle.relay_admin.specs.declared.admin_fault.AdminFault.TheVariants.{OtherHost, Origin, NoPath}
+use Rattle.relay_admin.specs.declared.admin_fault.AdminFault.TheVariants.{OnlyGet, OnlyPost}
+use Rattle.relay_admin.specs.declared.admin_fault.AdminFault.TheVariants.{OnlyRoomMethods}
+use Rattle.relay_admin.specs.declared.admin_fault.AdminFault.TheVariants.{OnlyDoorMethods, BadQuery}
+use Rattle.relay_admin.specs.declared.admin_fault.AdminFault.TheVariants.{Expectation, MediaType}
+use Rattle.relay_admin.specs.declared.admin_fault.AdminFault.TheVariants.{NoLength, BadLength}
+use Rattle.relay_admin.specs.declared.admin_fault.AdminFault.TheVariants.{BodyTooLong}
 use Rattle.relay_admin.specs.declared.not_forgotten.NotForgotten.{NotForgotten}
 use Rattle.relay_admin.specs.declared.not_forgotten.NotForgotten.TheVariants as kept
 use Rattle.relay_admin.specs.declared.unavailable.Unavailable.{Unavailable}

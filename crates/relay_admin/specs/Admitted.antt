@@ -1,5 +1,6 @@
 -- Which requests are accepted, in HTTP's terms (RFC 9110, sections 7.2 and 9; RFC 6454, section 7).
-use Rattle.std.specs.Prelude.{◌≡◌, ◌≤◌, ◌↔◌, ⊤, ℕ, IsTrue, false, List, ◌++◌, length, codes, Some, None, map}
+use Rattle.std.specs.Prelude.{◌≡◌, ◌≤◌, ◌↔◌, ⊤, ℕ, IsTrue, false, List, ◌++◌, length, codes, Some}
+use Rattle.std.specs.Prelude.{None, map}
 use Rattle.httparse.specs.Grammar.{RequestHead, ReadsRequest}
 use Rattle.httparse.specs.Spans.{name_and_value}
 use Rattle.relay_http_head.specs.Head.{Fields, only_value, has_field}
@@ -8,7 +9,8 @@ use Rattle.relay_admin.specs.Edits.{is_json_patch, number_of}
 use Rattle.relay_admin.specs.Host.{is_loopback}
 use Rattle.relay_admin.specs.Judged.{verdict_told}
 use Rattle.relay_admin.specs.Query.{path_of, query_of, pointer_in}
-use Rattle.relay_admin.specs.Route.{target_of, method_of, Asked, request, forget, part, edit, admit, exclude}
+use Rattle.relay_admin.specs.Route.{target_of, method_of, Asked, request, forget, part, edit, admit}
+use Rattle.relay_admin.specs.Route.{exclude}
 use Rattle.relay_admin.specs.Verdict.{accept, window}
 use Rattle.relay_admin.specs.declared.answer.Ask.{Ask}
 use Rattle.relay_admin.specs.declared.checks.TheConstants.{MAX_FIELDS}

@@ -1,6 +1,7 @@
 -- The answer to the bytes received so far.
 use Rattle.std.specs.Prelude.{◌≡◌, ◌⊎◌, ⊤, ℕ, List, length}
-use Rattle.httparse.specs.Grammar.{RequestHead, ReadsRequest, HasNoRequest, NeverHasRequest, MayBecomeRequest, print_request}
+use Rattle.httparse.specs.Grammar.{RequestHead, ReadsRequest, HasNoRequest, NeverHasRequest}
+use Rattle.httparse.specs.Grammar.{MayBecomeRequest, print_request}
 use Rattle.relay_admin.specs.Judged.{verdict_told}
 use Rattle.relay_admin.specs.Verdict.{refuse, verdict_of, verdict_before_head, window}
 use Rattle.relay_admin.specs.declared.answer.Ask.{Ask}

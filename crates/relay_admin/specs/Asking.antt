@@ -1,7 +1,9 @@
 -- What is said to a hub, as the tokens of its JSON, and the text of the snapshot that it shows.
-use Rattle.std.specs.Prelude.{ℕ, List, [], ◌∷◌, ◌++◌, Option, Some, None, IsSome, codes, decimal, IsUtf8}
+use Rattle.std.specs.Prelude.{ℕ, List, [], ◌∷◌, ◌++◌, Option, Some, None, IsSome, codes, decimal}
+use Rattle.std.specs.Prelude.{IsUtf8}
 use Rattle.json.specs.Json.{document}
-use Rattle.json.specs.Token.{Token, begin_array, end_array, begin_object, end_object, key, string, number}
+use Rattle.json.specs.Token.{Token, begin_array, end_array, begin_object, end_object, key, string}
+use Rattle.json.specs.Token.{number}
 
 -- the bytes are one JSON text (RFC 8259)
 abbrev pub IsJson : List ℕ → Type 0

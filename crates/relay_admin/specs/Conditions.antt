@@ -1,5 +1,6 @@
 -- The entity tags of revisions, and the conditions on them (RFC 9110, sections 8.8.3 and 13.1).
-use Rattle.std.specs.Prelude.{ℕ, Bool, ◌||◌, if◌then◌else◌, List, [], ◌∷◌, ◌++◌, codes, decimal, bytes_eq}
+use Rattle.std.specs.Prelude.{ℕ, Bool, ◌||◌, if◌then◌else◌, List, [], ◌∷◌, ◌++◌, codes, decimal}
+use Rattle.std.specs.Prelude.{bytes_eq}
 use Rattle.std.specs.Str.{str_eq_ignore_ascii_case}
 use Rattle.relay_http_head.specs.Head.{Fields, lists}
 use Rattle.relay_admin.specs.declared.room.revision_tag.RevisionTag.{RevisionTag}

@@ -1,5 +1,6 @@
 -- Parts of a text.
-use Rattle.std.specs.Prelude.{ℕ, ◌==◌, if◌then◌else◌, List, [], ◌∷◌, length, drop, nat_eq, Option, Some, None}
+use Rattle.std.specs.Prelude.{ℕ, ◌==◌, if◌then◌else◌, List, [], ◌∷◌, length, drop, nat_eq, Option}
+use Rattle.std.specs.Prelude.{Some, None}
 use Rattle.std.specs.List.{starts_with}
 
 -- what stands behind a prefix, if the text begins with it

@@ -1,6 +1,8 @@
 -- Which edits of a room are accepted: the fields that a PATCH must have (RFC 5789; RFC 9110,
 -- sections 8.3, 8.6 and 10.1.1; RFC 9112, section 6).
-use Rattle.std.specs.Prelude.{ℕ, Bool, true, not, ◌+◌, ◌-◌, ◌*◌, ◌==◌, ◌&&◌, ◌||◌, nat_lt, nat_le, if◌then◌else◌, List, [], ◌∷◌, length, take, drop, codes, Option, Some, None, is_some, is_none, option_and_then, Result, Ok, Err}
+use Rattle.std.specs.Prelude.{ℕ, Bool, true, not, ◌+◌, ◌-◌, ◌*◌, ◌==◌, ◌&&◌, ◌||◌, nat_lt, nat_le}
+use Rattle.std.specs.Prelude.{if◌then◌else◌, List, [], ◌∷◌, length, take, drop, codes, Option, Some}
+use Rattle.std.specs.Prelude.{None, is_some, is_none, option_and_then, Result, Ok, Err}
 use Rattle.std.specs.Char.{is_ascii_digit}
 use Rattle.std.specs.List.{list_all}
 use Rattle.std.specs.Str.{str_eq_ignore_ascii_case}
@@ -8,7 +10,9 @@ use Rattle.relay_http_head.specs.Checks.{first_failed}
 use Rattle.relay_http_head.specs.Head.{Fields, only_value, has_field, kept}
 use Rattle.relay_admin.specs.Query.{query_of}
 use Rattle.relay_admin.specs.declared.admin_fault.AdminFault.{AdminFault}
-use Rattle.relay_admin.specs.declared.admin_fault.AdminFault.TheVariants.{NoPath, Expectation, MediaType, NoLength, BadLength, BodyTooLong}
+use Rattle.relay_admin.specs.declared.admin_fault.AdminFault.TheVariants.{NoPath, Expectation}
+use Rattle.relay_admin.specs.declared.admin_fault.AdminFault.TheVariants.{MediaType, NoLength}
+use Rattle.relay_admin.specs.declared.admin_fault.AdminFault.TheVariants.{BadLength, BodyTooLong}
 use Rattle.relay_admin.specs.declared.room.edit.TheConstants.{MAX_BODY}
 
 -- what may stand behind a media type: nothing, or parameters behind a `;`

@@ -2,7 +2,8 @@
 use Rattle.std.specs.Prelude.{◌≡◌, Result, Ok, Err, string_bytes}
 use Rattle.relay_http_head.specs.declared.checks.Fault.{Fault}
 use Rattle.relay_http_head.specs.declared.checks.Fault.TheVariants.{Refused, NoMemory}
-use Rattle.relay_admin.specs.Route.{Place, at_path, at_room, at_door, Asked, request, forget, part, edit, admit, exclude}
+use Rattle.relay_admin.specs.Route.{Place, at_path, at_room, at_door, Asked, request, forget, part}
+use Rattle.relay_admin.specs.Route.{edit, admit, exclude}
 use Rattle.relay_admin.specs.Verdict.{Verdict, more, accept, refuse}
 use Rattle.relay_admin.specs.declared.answer.Ask.{Ask}
 use Rattle.relay_admin.specs.declared.answer.Ask.TheVariants as ask

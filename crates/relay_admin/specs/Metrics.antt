@@ -6,7 +6,8 @@ use Rattle.relay_admin.specs.declared.metrics.EndedBy.{EndedBy}
 use Rattle.relay_admin.specs.declared.metrics.Metrics.{Metrics}
 use Rattle.relay_admin.specs.declared.metrics.RefusedBy.{RefusedBy}
 use Rattle.relay_admin.specs.declared.metrics.SnapshotsBy.{SnapshotsBy}
-use Rattle.relay_admin.specs.Metric.{gauge, gauge_of_micros, counter, counter_of_micros, labelled_counter, word_and_count}
+use Rattle.relay_admin.specs.Metric.{gauge, gauge_of_micros, counter, counter_of_micros}
+use Rattle.relay_admin.specs.Metric.{labelled_counter, word_and_count}
 
 -- the rooms, the sessions, and what was edited
 abbrev pub hub_text : Metrics → List ℕ

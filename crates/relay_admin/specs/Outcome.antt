@@ -1,9 +1,11 @@
 -- What came of a request, by the hub's reply to it: refused with a fault, or not.
-use Rattle.std.specs.Prelude.{ℕ, Bool, if◌then◌else◌, List, [], ◌∷◌, codes, bytes_eq, Option, Some, None, option_and_then, option_map}
+use Rattle.std.specs.Prelude.{ℕ, Bool, if◌then◌else◌, List, [], ◌∷◌, codes, bytes_eq, Option, Some}
+use Rattle.std.specs.Prelude.{None, option_and_then, option_map}
 use Rattle.std.specs.List.{list_any}
 use Rattle.relay_admin.specs.Cut.{behind, until, after}
 use Rattle.relay_admin.specs.declared.outcome.Outcome.{Outcome}
-use Rattle.relay_admin.specs.declared.outcome.Outcome.TheVariants.{Accepted, Stale, Malformed, Unprocessable}
+use Rattle.relay_admin.specs.declared.outcome.Outcome.TheVariants.{Accepted, Stale, Malformed}
+use Rattle.relay_admin.specs.declared.outcome.Outcome.TheVariants.{Unprocessable}
 
 -- the word of the fault, which is the second member of a refusal: `{"at":A,"fault":"W",..`
 abbrev pub fault_in : List ℕ → Option (List ℕ)

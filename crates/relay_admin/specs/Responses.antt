@@ -1,10 +1,19 @@
 -- The bytes of the responses (RFC 9112, section 4).
-use Rattle.std.specs.Prelude.{ℕ, Bool, true, false, if◌then◌else◌, List, [], ◌++◌, length, codes, decimal, Option, Some, None}
+use Rattle.std.specs.Prelude.{ℕ, Bool, true, false, if◌then◌else◌, List, [], ◌++◌, length, codes}
+use Rattle.std.specs.Prelude.{decimal, Option, Some, None}
 use Rattle.http.specs.StatusCode.{status_text}
 use Rattle.relay_admin.specs.AdminFaults as refusal
 use Rattle.relay_admin.specs.Conditions.{tag_text}
 use Rattle.relay_admin.specs.declared.response.Response.{Response}
-use Rattle.relay_admin.specs.declared.response.Response.TheVariants.{Healthy, Unhealthy, Metrics, Rooms, Wanted, Opened, Admitted, Excluded, Open, Stopping, Forgotten, NotForgotten, Part, NotModified, Edited, NoRoom, NoValue, OtherRevision, Malformed, Unprocessable, Unavailable, Refused}
+use Rattle.relay_admin.specs.declared.response.Response.TheVariants.{Healthy, Unhealthy, Metrics}
+use Rattle.relay_admin.specs.declared.response.Response.TheVariants.{Rooms, Wanted, Opened}
+use Rattle.relay_admin.specs.declared.response.Response.TheVariants.{Admitted, Excluded, Open}
+use Rattle.relay_admin.specs.declared.response.Response.TheVariants.{Stopping, Forgotten}
+use Rattle.relay_admin.specs.declared.response.Response.TheVariants.{NotForgotten, Part}
+use Rattle.relay_admin.specs.declared.response.Response.TheVariants.{NotModified, Edited, NoRoom}
+use Rattle.relay_admin.specs.declared.response.Response.TheVariants.{NoValue, OtherRevision}
+use Rattle.relay_admin.specs.declared.response.Response.TheVariants.{Malformed, Unprocessable}
+use Rattle.relay_admin.specs.declared.response.Response.TheVariants.{Unavailable, Refused}
 use Rattle.relay_admin.specs.declared.room.revision_tag.RevisionTag.{RevisionTag}
 
 abbrev pub status_of : Response → ℕ

@@ -1,6 +1,7 @@
 -- The lists of rooms, as the tokens of their JSON.
 use Rattle.std.specs.Prelude.{ℕ, List, [], ◌∷◌, ◌++◌, map, Option, Some, None, codes, decimal}
-use Rattle.json.specs.Token.{Token, begin_array, end_array, begin_object, end_object, key, string, number}
+use Rattle.json.specs.Token.{Token, begin_array, end_array, begin_object, end_object, key, string}
+use Rattle.json.specs.Token.{number}
 
 -- a list without rooms, before its end
 abbrev pub begun : List Token

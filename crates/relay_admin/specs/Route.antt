@@ -1,8 +1,10 @@
 -- What an operator may ask, by target and method.
-use Rattle.std.specs.Prelude.{ℕ, Bool, List, ◌||◌, if◌then◌else◌, codes, bytes_eq, Option, Some, None, option_map}
+use Rattle.std.specs.Prelude.{ℕ, Bool, List, ◌||◌, if◌then◌else◌, codes, bytes_eq, Option, Some}
+use Rattle.std.specs.Prelude.{None, option_map}
 use Rattle.relay_admin.specs.Cut.{behind}
 use Rattle.relay_admin.specs.declared.request.AdminRequest.{AdminRequest}
-use Rattle.relay_admin.specs.declared.request.AdminRequest.TheVariants.{Health, Metrics, Rooms, Wanted, Open, Stop}
+use Rattle.relay_admin.specs.declared.request.AdminRequest.TheVariants.{Health, Metrics, Rooms}
+use Rattle.relay_admin.specs.declared.request.AdminRequest.TheVariants.{Wanted, Open, Stop}
 
 -- the target of a request
 abbrev pub target_of : AdminRequest → List ℕ

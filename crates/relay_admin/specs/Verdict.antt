@@ -1,5 +1,7 @@
 -- The verdict on a head.
-use Rattle.std.specs.Prelude.{ℕ, Bool, true, not, nat_le, nat_lt, if◌then◌else◌, List, [], ◌∷◌, length, take, codes, bytes_eq, Option, Some, None, is_some, Result, Ok, Err}
+use Rattle.std.specs.Prelude.{ℕ, Bool, true, not, nat_le, nat_lt, if◌then◌else◌, List, [], ◌∷◌}
+use Rattle.std.specs.Prelude.{length, take, codes, bytes_eq, Option, Some, None, is_some, Result}
+use Rattle.std.specs.Prelude.{Ok, Err}
 use Rattle.httparse.specs.Grammar.{RequestHead}
 use Rattle.relay_http_head.specs.Checks.{first_failed}
 use Rattle.relay_http_head.specs.Head.{Fields, only_value, has_field, kept}
@@ -8,11 +10,16 @@ use Rattle.relay_admin.specs.Conditions.{listed}
 use Rattle.relay_admin.specs.Edits.{edit_checks, length_asked}
 use Rattle.relay_admin.specs.Host.{is_loopback}
 use Rattle.relay_admin.specs.Query.{path_of, query_of, pointer_in}
-use Rattle.relay_admin.specs.Route.{Place, at_path, at_room, at_door, place_at, takes, Asked, request, forget, part, edit, admit, exclude}
+use Rattle.relay_admin.specs.Route.{Place, at_path, at_room, at_door, place_at, takes, Asked}
+use Rattle.relay_admin.specs.Route.{request, forget, part, edit, admit, exclude}
 use Rattle.relay_admin.specs.declared.checks.TheConstants.{MAX_FIELDS}
 use Rattle.relay_admin.specs.declared.reading.TheConstants.{MAX_HEAD}
 use Rattle.relay_admin.specs.declared.admin_fault.AdminFault.{AdminFault}
-use Rattle.relay_admin.specs.declared.admin_fault.AdminFault.TheVariants.{TooLong, NoHost, OtherHost, Origin, NoPath, OnlyGet, OnlyPost, OnlyRoomMethods, OnlyDoorMethods, BadQuery}
+use Rattle.relay_admin.specs.declared.admin_fault.AdminFault.TheVariants.{TooLong, NoHost}
+use Rattle.relay_admin.specs.declared.admin_fault.AdminFault.TheVariants.{OtherHost, Origin, NoPath}
+use Rattle.relay_admin.specs.declared.admin_fault.AdminFault.TheVariants.{OnlyGet, OnlyPost}
+use Rattle.relay_admin.specs.declared.admin_fault.AdminFault.TheVariants.{OnlyRoomMethods}
+use Rattle.relay_admin.specs.declared.admin_fault.AdminFault.TheVariants.{OnlyDoorMethods, BadQuery}
 use Rattle.relay_admin.specs.declared.request.AdminRequest.TheVariants.{Open, Stop}
 
 -- wait for more bytes, accept what is asked, or refuse

@@ -1,10 +1,12 @@
 //! What is said to a hub for a request that reads or edits a room, and what the hub shows, as texts
 //! (`docs/PROTOCOL.md`, "Requests" and "Messages").
-ghost use Rattle.std.specs.Prelude.{◌≡◌, ◌≢◌, ◌↔◌, ℕ, List, ◌++◌, ◌∷◌, [], codes, IfOk, OnOk, IfSome, IsSome, MatchOption, string_bytes};
+ghost use Rattle.std.specs.Prelude.{◌≡◌, ◌≢◌, ◌↔◌, ℕ, List, ◌++◌, ◌∷◌, [], codes, IfOk, OnOk};
+ghost use Rattle.std.specs.Prelude.{IfSome, IsSome, MatchOption, string_bytes};
 ghost use Rattle.json.specs.Lex.{tokens};
 ghost use Rattle.json.specs.Print.{ArePrintable, print};
 ghost use Rattle.json.specs.Token.{key};
-ghost use Rattle.relay_admin.specs.Asking.{begun, based, watch_tokens, edit_tokens, IsJson, snapshot_text};
+ghost use Rattle.relay_admin.specs.Asking.{begun, based, watch_tokens, edit_tokens, IsJson};
+ghost use Rattle.relay_admin.specs.Asking.{snapshot_text};
 
 use crate::cut::behind;
 use json::{Reader, Scratch, Writer, is_valid};

@@ -1,7 +1,8 @@
 //! A metric in the text format of Prometheus, version 0.0.4.
 ghost use Rattle.std.specs.Prelude.{◌≡◌, ◌++◌, map, OnOk, string_bytes};
 ghost use Rattle.std.specs.List.{flat_map};
-ghost use Rattle.relay_admin.specs.Metric.{kind_name, value_text, labelled_text, word_and_count, values_text, metric_text};
+ghost use Rattle.relay_admin.specs.Metric.{kind_name, value_text, labelled_text, word_and_count};
+ghost use Rattle.relay_admin.specs.Metric.{values_text, metric_text};
 
 use std::alloc::{AllocError, Global};
 

@@ -1,6 +1,8 @@
 //! The numbers of a relay in the text format of Prometheus, version 0.0.4.
 ghost use Rattle.std.specs.Prelude.{◌≡◌, ◌++◌, IfOk, OnOk, string_bytes};
-ghost use Rattle.relay_admin.specs.Metrics.{hub_text, weights_text, connections_text, refused_text, ended_text, replies_text, updates_text, rounds_text, metrics_text};
+ghost use Rattle.relay_admin.specs.Metrics.{hub_text, weights_text, connections_text, refused_text};
+ghost use Rattle.relay_admin.specs.Metrics.{ended_text, replies_text, updates_text, rounds_text};
+ghost use Rattle.relay_admin.specs.Metrics.{metrics_text};
 
 use crate::metric::Kind::{Counter, Gauge};
 use crate::metric::Values::{Labelled, Micros, One};

@@ -1,6 +1,8 @@
 //! The responses to requests, as texts.
 ghost use Rattle.std.specs.Prelude.{◌≡◌, IfOk, string_bytes};
-ghost use Rattle.relay_admin.specs.Responses.{has_content, status_of, tag_of, line_of, lines_of, kind_of, body_of, bare_text, content_by, content_text, response_text};
+ghost use Rattle.relay_admin.specs.Responses.{has_content, status_of, tag_of, line_of, lines_of};
+ghost use Rattle.relay_admin.specs.Responses.{kind_of, body_of, bare_text, content_by};
+ghost use Rattle.relay_admin.specs.Responses.{content_text, response_text};
 
 use crate::admin_fault::AdminFault;
 use crate::not_forgotten::NotForgotten;
@@ -228,7 +230,10 @@ fn bare_text(alloc: Global, reply: &Response<'_>) -> Result<String, AllocError>
 {
     let (status, lines) = (reply.status(), reply.lines(alloc)?);
     format!(in alloc;
-        "HTTP/1.1 {status}\r\n{lines}Cache-Control: no-store\r\nX-Content-Type-Options: nosniff\r\nConnection: close\r\n\r\n"
+        "HTTP/1.1 {status}\r\n\
+         {lines}Cache-Control: no-store\r\n\
+         X-Content-Type-Options: nosniff\r\n\
+         Connection: close\r\n\r\n"
     )
 }
 
@@ -257,6 +262,12 @@ fn content_by(
 {
     let length = body.len();
     format!(in alloc;
-        "HTTP/1.1 {status}\r\nContent-Type: {kind}\r\nContent-Length: {length}\r\n{lines}Cache-Control: no-store\r\nX-Content-Type-Options: nosniff\r\nConnection: close\r\n\r\n{body}"
+        "HTTP/1.1 {status}\r\n\
+         Content-Type: {kind}\r\n\
+         Content-Length: {length}\r\n\
+         {lines}Cache-Control: no-store\r\n\
+         X-Content-Type-Options: nosniff\r\n\
+         Connection: close\r\n\r\n\
+         {body}"
     )
 }

@@ -10,7 +10,8 @@ ghost use Rattle.relay_admin.specs.AdminFaults.{unavailable_why};
 /// ```
 #[derive(Clone, Copy, Debug, PartialEq, Eq)]
 pub enum Unavailable {
-    /// There are as many rooms as there may be, and none is evictable; or so many are open by name.
+    /// There are as many rooms as there may be, and none can be replaced now; or so many are open
+    /// by name.
     Rooms,
     /// As many sessions are open as may be.
     Sessions,

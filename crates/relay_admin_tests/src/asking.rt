@@ -321,7 +321,9 @@ fn is_named(alloc: Global, fields: &str) -> Option<String> {
     shown(alloc, part.if_none_match.names(alloc, TAG).ok()?)
 }
 
-const EDIT: &str =
-    "PATCH /rooms/r HTTP/1.1\r\nHost: localhost\r\nContent-Type: application/json-patch+json\r\nContent-Length: 2\r\n";
+const EDIT: &str = "PATCH /rooms/r HTTP/1.1\r\n\
+     Host: localhost\r\n\
+     Content-Type: application/json-patch+json\r\n\
+     Content-Length: 2\r\n";
 
 const READ: &str = "GET /rooms/r HTTP/1.1\r\nHost: localhost\r\n";

@@ -1,27 +1,35 @@
 -- A client that hears the texts that a turn drew keeps up, and is never lost.
-use Rattle.std.proofs.Common.{◌≡◌, ◌≢◌, ◌⊎◌, inl, inr, ℕ, ◌==◌, Bool, true, false, List, [], ◌∷◌, ◌++◌, Option, Some, None, Result, Ok, Err, refl, sym, ◌∙◌, ap, subst, arith, append-nil, slice_get, if◌then◌else◌}
+use Rattle.std.proofs.Common.{◌≡◌, ◌≢◌, ◌⊎◌, inl, inr, ℕ, ◌==◌, Bool, true, false, List, [], ◌∷◌}
+use Rattle.std.proofs.Common.{◌++◌, Option, Some, None, Result, Ok, Err, refl, sym, ◌∙◌, ap, subst}
+use Rattle.std.proofs.Common.{arith, append-nil, slice_get, if◌then◌else◌}
 use Rattle.std.specs.Prelude.{option_map}
 use Rattle.std.proofs.lemmas.Bool.Decides.{nat_tests}
 use Rattle.relay_follow.specs.Hearing.{told}
 use Rattle.relay_hub.specs.Admitted.{affordable, unless_unpaid, unpaid_slot}
-use Rattle.relay_hub.specs.Log.{Log, Stay, Watching, begun, entry, home, documents, watching, hearing, resumes_from, asked, asked_at_home}
+use Rattle.relay_hub.specs.Log.{Log, Stay, Watching, begun, entry, home, documents, watching}
+use Rattle.relay_hub.specs.Log.{hearing, resumes_from, asked, asked_at_home}
 use Rattle.relay_hub.specs.Session.{Session, later}
 use Rattle.relay_hub.specs.Stands.{HoldsPresent}
 use Rattle.relay_hub.specs.State.{State, RoomSessions, home_of, session_in}
 use Rattle.relay_hub.specs.Step.{Step}
 use Rattle.relay_hub.specs.declared.config.HubConfig.{HubConfig}
 use Rattle.relay_hub.specs.declared.event.Answer.{Answer}
-use Rattle.relay_hub.specs.declared.event.Answer.TheVariants.{Opened, NotOpened, Heard, Drawn, Closed, WillDone, NoWill, Forgotten, NotForgotten, NoSession}
-use Rattle.relay_hub.specs.declared.event.Event.TheVariants.{Open, Receive, Draw, Close, DoWill, Forget}
+use Rattle.relay_hub.specs.declared.event.Answer.TheVariants.{Opened, NotOpened, Heard, Drawn}
+use Rattle.relay_hub.specs.declared.event.Answer.TheVariants.{Closed, WillDone, NoWill, Forgotten}
+use Rattle.relay_hub.specs.declared.event.Answer.TheVariants.{NotForgotten, NoSession}
+use Rattle.relay_hub.specs.declared.event.Event.TheVariants.{Open, Receive, Draw, Close, DoWill}
+use Rattle.relay_hub.specs.declared.event.Event.TheVariants.{Forget}
 use Rattle.relay_hub.specs.declared.event.Heard.TheVariants.{Answered, Busy}
 use Rattle.relay_hub.proofs.Stands.{step_stands}
 use Rattle.relay_hub.proofs.Watchers.{exactly_held}
-use Rattle.relay_link.specs.Follows.{Point, no_opening, Follows, stays, makes, with_events, drawn, drawn_by}
+use Rattle.relay_link.specs.Follows.{Point, no_opening, Follows, stays, makes, with_events, drawn}
+use Rattle.relay_link.specs.Follows.{drawn_by}
 use Rattle.relay_proto.specs.Client.{Client, nothing, holds, lost, client, client_after}
 use Rattle.relay_proto.specs.Request.{request_of_text}
 use Rattle.relay_proto.specs.declared.refusal.Refusal.{Refusal}
 use Rattle.relay_proto.specs.declared.request.Request.{Request}
-use Rattle.relay_proto.specs.declared.request.Request.TheVariants.{Edit, Will, Watch, Resume, Unwatch}
+use Rattle.relay_proto.specs.declared.request.Request.TheVariants.{Edit, Will, Watch, Resume}
+use Rattle.relay_proto.specs.declared.request.Request.TheVariants.{Unwatch}
 use Rattle.relay_tree.specs.Document.{Document}
 use Rattle.relay_tree.specs.declared.budget.Budget.{Budget}
 use Rattle.relay_view.specs.View.{View, view}

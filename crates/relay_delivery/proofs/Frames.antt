@@ -1,5 +1,7 @@
 -- What a client reads of a text frame that a server sends.
-use Rattle.std.proofs.Common.{◌≡◌, ◌⊎◌, inl, inr, ℕ, ◌+◌, ◌^◌, ◌<◌, ◌≤◌, Bool, true, false, List, ◌++◌, length, length-append, cond, None, Result, Ok, Err, refl, sym, ◌∙◌, ap, subst, arith}
+use Rattle.std.proofs.Common.{◌≡◌, ◌⊎◌, inl, inr, ℕ, ◌+◌, ◌^◌, ◌<◌, ◌≤◌, Bool, true, false, List}
+use Rattle.std.proofs.Common.{◌++◌, length, length-append, cond, None, Result, Ok, Err, refl, sym}
+use Rattle.std.proofs.Common.{◌∙◌, ap, subst, arith}
 use Rattle.std.specs.Prelude.{IsUtf8}
 use Rattle.websocket.specs.declared.error.Error.{Error}
 use Rattle.websocket.specs.declared.error.Error.TheVariants.{Utf8, OutOfMemory}
@@ -10,7 +12,9 @@ use Rattle.websocket.specs.declared.protocol.frame.codec.RawFrame.{RawFrame}
 use Rattle.websocket.specs.declared.protocol.frame.coding.Data.TheVariants.{Text}
 use Rattle.websocket.specs.declared.protocol.frame.coding.OpCode.TheVariants.{Data}
 use Rattle.websocket.specs.declared.protocol.frame.header.FrameHeader.{FrameHeader}
-use Rattle.websocket.specs.Connection.{Connection, Effect, whole_header, deliver, on_frame, on_data, on_message_bytes, consumed_with, read_step, is_fragment, StartsWithFragment, ReadAsksReply}
+use Rattle.websocket.specs.Connection.{Connection, Effect, whole_header, deliver, on_frame, on_data}
+use Rattle.websocket.specs.Connection.{on_message_bytes, consumed_with, read_step, is_fragment}
+use Rattle.websocket.specs.Connection.{StartsWithFragment, ReadAsksReply}
 use Rattle.websocket.specs.Content.{text}
 use Rattle.websocket.specs.Frame.{decode_frame}
 use Rattle.websocket.specs.FrameHeader.{encode_header}

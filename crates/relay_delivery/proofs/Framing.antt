@@ -1,12 +1,14 @@
 -- What a write turn of a link says of the bytes that it framed.
-use Rattle.std.proofs.Common.{◌≡◌, ◌≤◌, ℕ, ◌+◌, cond, List, [], ◌∷◌, ◌++◌, Option, Some, Result, Ok, Err, IfOk, subst, arith}
+use Rattle.std.proofs.Common.{◌≡◌, ◌≤◌, ℕ, ◌+◌, cond, List, [], ◌∷◌, ◌++◌, Option, Some, Result, Ok}
+use Rattle.std.proofs.Common.{Err, IfOk, subst, arith}
 use Rattle.std.proofs.lemmas.List.Sums.{sum_by-append}
 use Rattle.std.specs.Io.KnownBytes.{Appends}
 use Rattle.relay_hub.specs.Log.{Log}
 use Rattle.relay_hub.specs.State.{State as Hub}
 use Rattle.relay_hub.specs.declared.config.HubConfig.{HubConfig}
 use Rattle.relay_hub.specs.declared.event.Event.{Event}
-use Rattle.relay_hub.specs.declared.event.Event.TheVariants.{Open as OpenEvent, Receive, Draw, Close, DoWill, Forget}
+use Rattle.relay_hub.specs.declared.event.Event.TheVariants.{Open as OpenEvent, Receive, Draw}
+use Rattle.relay_hub.specs.declared.event.Event.TheVariants.{Close, DoWill, Forget}
 use Rattle.relay_link.specs.Adds.{is_receive, receives}
 use Rattle.relay_link.specs.Follows.{Point, at, no_opening, Follows, stays, makes, drawn}
 use Rattle.relay_link.specs.Frames.{framed, text_frames}

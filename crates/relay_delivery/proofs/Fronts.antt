@@ -1,11 +1,14 @@
 -- A text that is drawn for a client that keeps up is a message, which does not lose the client, and
 -- the client keeps up.
-use Rattle.std.proofs.Common.{◌≡◌, ◌≢◌, inl, inr, ℕ, Bool, true, false, List, [], ◌∷◌, ◌++◌, Option, Some, None, refl, sym, ◌∙◌, ap, subst, arith, append-nil, slice_get}
+use Rattle.std.proofs.Common.{◌≡◌, ◌≢◌, inl, inr, ℕ, Bool, true, false, List, [], ◌∷◌, ◌++◌, Option}
+use Rattle.std.proofs.Common.{Some, None, refl, sym, ◌∙◌, ap, subst, arith, append-nil, slice_get}
 use Rattle.std.specs.List.{AllByRecursion}
 use Rattle.std.specs.Prelude.{option_map}
 use Rattle.relay_hub.specs.Log.{Log, Watching, documents, watching, view_message, hearing}
-use Rattle.relay_hub.specs.Session.{Session, snapshot_of, patch_message, message_of, front_message, message_text, ReadsBack, later}
-use Rattle.relay_hub.specs.Stands.{HoldsRevision, IsAtNamed, EachLeads, PatchFits, OutboxStands, WatchStands, Follows, StandsFor}
+use Rattle.relay_hub.specs.Session.{Session, snapshot_of, patch_message, message_of, front_message}
+use Rattle.relay_hub.specs.Session.{message_text, ReadsBack, later}
+use Rattle.relay_hub.specs.Stands.{HoldsRevision, IsAtNamed, EachLeads, PatchFits, OutboxStands}
+use Rattle.relay_hub.specs.Stands.{WatchStands, Follows, StandsFor}
 use Rattle.relay_hub.specs.State.{State, RoomSessions, Home, index_of, session_in}
 use Rattle.relay_hub.specs.Step.{Draws, InRoom, AtIndex, Step}
 use Rattle.relay_hub.specs.declared.config.HubConfig.{HubConfig}

@@ -1,5 +1,6 @@
 -- What other sessions do leaves a client where it is.
-use Rattle.std.proofs.Common.{◌≡◌, ℕ, ◌==◌, Bool, true, false, ◌∷◌, Option, None, arith, if◌then◌else◌}
+use Rattle.std.proofs.Common.{◌≡◌, ℕ, ◌==◌, Bool, true, false, ◌∷◌, Option, None, arith}
+use Rattle.std.proofs.Common.{if◌then◌else◌}
 use Rattle.std.proofs.lemmas.Bool.Decides.{nat_tests}
 use Rattle.relay_hub.proofs.Stands.{step_stands}
 use Rattle.relay_hub.specs.Log.{Log, Watching, entry, watching}

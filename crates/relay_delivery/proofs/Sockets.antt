@@ -1,5 +1,7 @@
 -- What a client's socket reads, if a text's frame stands in front of its bytes.
-use Rattle.std.proofs.Common.{◌≡◌, ◌≢◌, ℕ, ◌^◌, ◌<◌, Bool, true, false, List, [], ◌∷◌, ◌++◌, length, drop, Option, None, Some, Result, Ok, refl, sym, ◌∙◌, ap, subst, append_assoc}
+use Rattle.std.proofs.Common.{◌≡◌, ◌≢◌, ℕ, ◌^◌, ◌<◌, Bool, true, false, List, [], ◌∷◌, ◌++◌, length}
+use Rattle.std.proofs.Common.{drop, Option, None, Some, Result, Ok, refl, sym, ◌∙◌, ap, subst}
+use Rattle.std.proofs.Common.{append_assoc}
 use Rattle.std.proofs.lemmas.List.{drop_at}
 use Rattle.std.specs.Io.KnownBytes.{Consumes, prepend_known}
 use Rattle.tungstenite.proofs.SocketLemmas.{runs-more, replies-none, nil-left}
@@ -13,7 +15,8 @@ use Rattle.websocket.specs.Text.{is_utf8}
 use Rattle.websocket.specs.declared.protocol.frame.codec.FrameStatus.TheVariants.{Complete}
 use Rattle.relay_follow.specs.Hearing.{hear_fault}
 use Rattle.relay_follow.specs.declared.fault.HearFault.{HearFault}
-use Rattle.relay_follow.specs.declared.fault.HearFault.TheVariants.{NotMessage, NoView, Order, Apply, NoMemory}
+use Rattle.relay_follow.specs.declared.fault.HearFault.TheVariants.{NotMessage, NoView, Order}
+use Rattle.relay_follow.specs.declared.fault.HearFault.TheVariants.{Apply, NoMemory}
 use Rattle.relay_link.specs.Frames.{text_frame}
 use Rattle.relay_tree.specs.Document.{Document}
 use Rattle.relay_delivery.specs.Receiving.{listening}

@@ -1,5 +1,7 @@
 -- What a follower holds after the frames of a turn, and why it may stop before their end.
-use Rattle.std.proofs.Common.{◌≡◌, ◌≢◌, ℕ, Bool, true, false, List, [], ◌∷◌, ◌++◌, Option, Some, None, Result, Ok, Err, IfErr, OnOk, refl, sym, ◌∙◌, subst, nat_lt, if◌then◌else◌}
+use Rattle.std.proofs.Common.{◌≡◌, ◌≢◌, ℕ, Bool, true, false, List, [], ◌∷◌, ◌++◌, Option, Some}
+use Rattle.std.proofs.Common.{None, Result, Ok, Err, IfErr, OnOk, refl, sym, ◌∙◌, subst, nat_lt}
+use Rattle.std.proofs.Common.{if◌then◌else◌}
 use Rattle.std.specs.List.{AllByRecursion}
 use Rattle.std.specs.Prelude.{IsUtf8, option_map}
 use Rattle.relay_follow.specs.Hearing.{as_client, told, hear_fault, read_fault, apply_fault}
@@ -22,8 +24,10 @@ use Rattle.relay_tree.specs.Document.{Document}
 use Rattle.relay_delivery.specs.Texts.{told_all, IsFaultOf, HearsAll}
 use Rattle.relay_delivery.specs.Turn.{FramedTurn, Resumes, KeepsUp, Delivered}
 use Rattle.relay_delivery.specs.declared.fault.ReceiveFault.{ReceiveFault}
-use Rattle.relay_delivery.specs.declared.fault.ReceiveFault.TheVariants.{NotFrames, NotUtf8, NotText, Refused, NoMemory}
-use Rattle.relay_delivery.proofs.Drawing.{Survives, hears, survives_told, Stays, stays_turn, holds_present}
+use Rattle.relay_delivery.specs.declared.fault.ReceiveFault.TheVariants.{NotFrames, NotUtf8}
+use Rattle.relay_delivery.specs.declared.fault.ReceiveFault.TheVariants.{NotText, Refused, NoMemory}
+use Rattle.relay_delivery.proofs.Drawing.{Survives, hears, survives_told, Stays, stays_turn}
+use Rattle.relay_delivery.proofs.Drawing.{holds_present}
 
 -- a follower is never lost
 found : (held : Option (ℕ × Document)) → as_client held ≢ lost

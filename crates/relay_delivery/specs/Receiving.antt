@@ -9,7 +9,8 @@ use Rattle.websocket.specs.declared.protocol.context.Step.{Step}
 use Rattle.websocket.specs.declared.protocol.state.WebSocketState.TheVariants.{Active}
 use Rattle.relay_link.specs.Frames.{text_frame}
 use Rattle.relay_delivery.specs.declared.fault.ReceiveFault.{ReceiveFault}
-use Rattle.relay_delivery.specs.declared.fault.ReceiveFault.TheVariants.{NotFrames, NotUtf8, NoMemory}
+use Rattle.relay_delivery.specs.declared.fault.ReceiveFault.TheVariants.{NotFrames, NotUtf8}
+use Rattle.relay_delivery.specs.declared.fault.ReceiveFault.TheVariants.{NoMemory}
 
 -- a client's connection between two messages, which puts no limit on their length
 abbrev pub listening : Connection

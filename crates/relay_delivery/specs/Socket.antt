@@ -8,7 +8,8 @@ use Rattle.relay_follow.specs.declared.fault.HearFault.TheVariants.{NoMemory}
 use Rattle.relay_tree.specs.Document.{Document}
 use Rattle.relay_delivery.specs.Receiving.{listening}
 use Rattle.relay_delivery.specs.declared.fault.SocketFault.{SocketFault}
-use Rattle.relay_delivery.specs.declared.fault.SocketFault.TheVariants.{Socket as Failed, NotText, Refused}
+use Rattle.relay_delivery.specs.declared.fault.SocketFault.TheVariants.{Socket as Failed, NotText}
+use Rattle.relay_delivery.specs.declared.fault.SocketFault.TheVariants.{Refused}
 
 -- The socket is that of a client between two messages, nothing waits to be sent, and these bytes
 -- are still to be read: those that it has taken, and then those that its stream has left.

@@ -1,5 +1,6 @@
 -- Texts, one after another, to a client.
-use Rattle.std.specs.Prelude.{◌≡◌, ⊤, ℕ, List, [], ◌∷◌, ◌++◌, Option, Some, option_and_then, Result, OnOk, IfErr, IsUtf8}
+use Rattle.std.specs.Prelude.{◌≡◌, ⊤, ℕ, List, [], ◌∷◌, ◌++◌, Option, Some, option_and_then, Result}
+use Rattle.std.specs.Prelude.{OnOk, IfErr, IsUtf8}
 use Rattle.relay_follow.specs.Hearing.{as_client, told, hear_fault}
 use Rattle.relay_follow.specs.declared.fault.HearFault.{HearFault}
 use Rattle.relay_follow.specs.declared.fault.HearFault.TheVariants as hear

@@ -1,5 +1,6 @@
 -- What a turn of a link brings to the client of its session.
-use Rattle.std.specs.Prelude.{◌≡◌, ◌≢◌, ◌⊎◌, ⊤, ℕ, List, [], Option, None, Some, Ok, slice_get, IsUtf8}
+use Rattle.std.specs.Prelude.{◌≡◌, ◌≢◌, ◌⊎◌, ⊤, ℕ, List, [], Option, None, Some, Ok, slice_get}
+use Rattle.std.specs.Prelude.{IsUtf8}
 use Rattle.std.specs.List.{AllByRecursion}
 use Rattle.relay_delivery.specs.Texts.{told_all}
 use Rattle.relay_hub.specs.Log.{Log, Stay, Watching, home, documents, watching}
@@ -9,7 +10,8 @@ use Rattle.relay_hub.specs.State.{State, RoomSessions, home_of, session_in}
 use Rattle.relay_hub.specs.declared.config.HubConfig.{HubConfig}
 use Rattle.relay_hub.specs.declared.event.Event.{Event}
 use Rattle.relay_hub.specs.declared.event.Event.TheVariants.{Receive, Draw}
-use Rattle.relay_link.specs.Follows.{Point, at, no_opening, Follows, stays, makes, with_events, drawn}
+use Rattle.relay_link.specs.Follows.{Point, at, no_opening, Follows, stays, makes, with_events}
+use Rattle.relay_link.specs.Follows.{drawn}
 use Rattle.relay_link.specs.Frames.{text_frames}
 use Rattle.relay_proto.specs.Client.{Client, nothing, holds, client_after}
 use Rattle.relay_proto.specs.Request.{request_of_text}

@@ -1,5 +1,6 @@
 //! One frame of a server, to a follower.
-ghost use Rattle.std.specs.Prelude.{◌≡◌, ◌<◌, ◌≤◌, ◌++◌, ℕ, List, Some, length, drop, IfOk, IfErr, OnOk, OnErr, IfSome};
+ghost use Rattle.std.specs.Prelude.{◌≡◌, ◌<◌, ◌≤◌, ◌++◌, ℕ, List, Some, length, drop, IfOk, IfErr};
+ghost use Rattle.std.specs.Prelude.{OnOk, OnErr, IfSome};
 ghost use Rattle.relay_follow.specs.Hearing.{as_client, told};
 ghost use Rattle.relay_delivery.specs.Receiving.{listening, Takes, IsRefusalOf};
 ghost use Rattle.relay_link.specs.Frames.{text_frame};

@@ -1,6 +1,7 @@
 -- The effect of a text on a follower: a client that is never lost, since it refuses every text that
 -- would leave it lost.
-use Rattle.std.specs.Prelude.{◌≡◌, ℕ, List, Option, Some, None, option_map, Result, Ok, Err, nat_lt, if◌then◌else◌}
+use Rattle.std.specs.Prelude.{◌≡◌, ℕ, List, Option, Some, None, option_map, Result, Ok, Err, nat_lt}
+use Rattle.std.specs.Prelude.{if◌then◌else◌}
 use Rattle.relay_tree.specs.Document.{Document}
 use Rattle.relay_patch.specs.Patch.{free}
 use Rattle.relay_patch.specs.After.{after}
@@ -11,7 +12,8 @@ use Rattle.relay_proto.specs.declared.message.Message.TheVariants as message
 use Rattle.relay_proto.specs.MessageRead.{message_of_text}
 use Rattle.relay_proto.specs.Client.{Client, nothing, holds, lost, client}
 use Rattle.relay_follow.specs.declared.fault.HearFault.{HearFault}
-use Rattle.relay_follow.specs.declared.fault.HearFault.TheVariants.{NotMessage, NoView, Order, Apply}
+use Rattle.relay_follow.specs.declared.fault.HearFault.TheVariants.{NotMessage, NoView, Order}
+use Rattle.relay_follow.specs.declared.fault.HearFault.TheVariants.{Apply}
 
 -- the client with the revision and the tree that a follower holds, if any
 abbrev pub as_client : Option (ℕ × Document) → Client

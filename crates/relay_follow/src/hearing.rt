@@ -1,7 +1,8 @@
 //! Applying received texts to a follower.
 ghost use Rattle.std.specs.Prelude.{◌≡◌, ◌≢◌, Some, OnOk, IfErr, OnErr};
 ghost use Rattle.relay_proto.specs.Client.{client, patched, lost};
-ghost use Rattle.relay_follow.specs.Hearing.{as_client, told, IsLost, hear_fault, message_fault, patch_fault};
+ghost use Rattle.relay_follow.specs.Hearing.{as_client, told, IsLost, hear_fault, message_fault};
+ghost use Rattle.relay_follow.specs.Hearing.{patch_fault};
 ghost use Rattle.relay_follow.specs.declared.fault.HearFault.TheVariants.{NoMemory};
 
 use crate::fault::HearFault;

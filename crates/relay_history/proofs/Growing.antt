@@ -1,10 +1,12 @@
 -- Laws of pushing: how one more revision extends the changes after an earlier one.
-use Rattle.std.specs.Prelude.{◌≡◌, ℕ, zero, suc, ◌+◌, ◌-◌, ◌<◌, ◌≤◌, min, List, [], ◌∷◌, ◌++◌, take, length, refl}
+use Rattle.std.specs.Prelude.{◌≡◌, ℕ, zero, suc, ◌+◌, ◌-◌, ◌<◌, ◌≤◌, min, List, [], ◌∷◌, ◌++◌, take}
+use Rattle.std.specs.Prelude.{length, refl}
 use Rattle.std.proofs.Common.{arith, sym, ap, add-one}
 use Rattle.std.proofs.lemmas.List.{length-take}
 use Rattle.relay_patch.specs.declared.change.Change.{Change}
 use Rattle.relay_history.specs.declared.history.TheConstants.{LAST_REVISION}
-use Rattle.relay_history.specs.History.{Past, IsHistory, Reaches, in_order, with_revision, changes_since}
+use Rattle.relay_history.specs.History.{Past, IsHistory, Reaches, in_order, with_revision}
+use Rattle.relay_history.specs.History.{changes_since}
 
 -- a prefix of a prefix
 take_shorter : {X : Type 0} (n m : ℕ) (xs : List X) → n ≤ m → take n (take m xs) ≡ take n xs

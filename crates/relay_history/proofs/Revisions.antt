@@ -1,5 +1,7 @@
 -- Revisions one by one, oldest first, as the iterator returns them.
-use Rattle.std.proofs.Common.{arith, ap, ◌∙◌, append_assoc, append-nil, sub-one, ◌≡◌, ℕ, zero, suc, ◌-◌, ◌<◌, List, [], ◌∷◌, ◌++◌, take, slice_get, Some, length, true, ◌==◌}
+use Rattle.std.proofs.Common.{arith, ap, ◌∙◌, append_assoc, append-nil, sub-one, ◌≡◌, ℕ, zero, suc}
+use Rattle.std.proofs.Common.{◌-◌, ◌<◌, List, [], ◌∷◌, ◌++◌, take, slice_get, Some, length, true}
+use Rattle.std.proofs.Common.{◌==◌}
 use Rattle.std.proofs.lemmas.Grind.{common_steps}
 use Rattle.relay_patch.specs.declared.change.Change.{Change}
 use Rattle.relay_history.specs.History.{in_order}

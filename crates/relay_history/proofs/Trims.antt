@@ -1,5 +1,6 @@
 -- Laws of trimming: what a history still holds after its oldest revisions are forgotten.
-use Rattle.std.proofs.Common.{◌≡◌, ℕ, zero, suc, ◌-◌, ◌≤◌, true, false, List, [], ◌∷◌, length, take, slice_get, Option, Some, None, refl, sym, ap, ◌∙◌, arith}
+use Rattle.std.proofs.Common.{◌≡◌, ℕ, zero, suc, ◌-◌, ◌≤◌, true, false, List, [], ◌∷◌, length, take}
+use Rattle.std.proofs.Common.{slice_get, Option, Some, None, refl, sym, ap, ◌∙◌, arith}
 use Rattle.std.specs.List.{sum_by}
 use Rattle.std.specs.Option.{is_none}
 use Rattle.std.proofs.lemmas.List.{take-take}
@@ -10,7 +11,8 @@ use Rattle.relay_patch.specs.declared.change.Change.{Change}
 use Rattle.relay_history.specs.History.{Past, IsHistory, Reaches, in_order, changes_since}
 use Rattle.relay_history.specs.Trimmed.{revision_weight, afforded, trimmed}
 use Rattle.relay_history.specs.Representation.{without_oldest}
-use Rattle.relay_history.proofs.Afforded.{afforded_unbounded, afforded_fewer, afforded_front, afforded_all, afforded_without_oldest}
+use Rattle.relay_history.proofs.Afforded.{afforded_unbounded, afforded_fewer, afforded_front}
+use Rattle.relay_history.proofs.Afforded.{afforded_all, afforded_without_oldest}
 
 -- a history with fewer revisions keeps the invariant
 pub fewer_is_history : (past : Past) (held : List (List Change)) → length held ≤ length past.changes

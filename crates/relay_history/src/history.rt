@@ -53,7 +53,8 @@ impl History {
     ghost use Rattle.std.specs.Prelude.{◌≡◌, ◌<◌, ◌≤◌, ◌↔◌, ◌⊎◌, IfOk, IsErrOf, IfSome, IsSome};
     ghost use Rattle.std.specs.Option.{is_none};
     ghost use Rattle.relay_tree.specs.Budget.{paid};
-    ghost use Rattle.relay_history.specs.History.{begun, with_revision, oldest, Reaches, changes_since, IsHistory};
+    ghost use Rattle.relay_history.specs.History.{begun, with_revision, oldest, Reaches};
+    ghost use Rattle.relay_history.specs.History.{changes_since, IsHistory};
     ghost use Rattle.relay_history.specs.Trimmed.{history_weight, trimmed};
     ghost use Rattle.relay_history.specs.Representation.{without_oldest};
 

@@ -65,6 +65,7 @@ impl<'a> Iterator for Since<'a> {
 
     ghost use Rattle.std.specs.Iterator.{YieldsFirstRef, item_count};
 
+    // `next` gives the first of the list, and leaves the others; what remains is their number.
     ghost next_gives = { YieldsFirstRef (λ s. s) };
 
     ghost remaining = { item_count (λ s. s) };

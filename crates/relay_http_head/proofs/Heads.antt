@@ -1,8 +1,12 @@
 -- Lemmas on the heads that bytes begin with.
-use Rattle.std.proofs.Common.{◌≡◌, ℕ, ◌+◌, ◌*◌, ◌<◌, ◌≤◌, List, [], ◌∷◌, ◌++◌, length, take, drop, sym, ◌∙◌, ap, subst, arith, append-nil, append_assoc, length-append, length-take, All}
+use Rattle.std.proofs.Common.{◌≡◌, ℕ, ◌+◌, ◌*◌, ◌<◌, ◌≤◌, List, [], ◌∷◌, ◌++◌, length, take, drop}
+use Rattle.std.proofs.Common.{sym, ◌∙◌, ap, subst, arith, append-nil, append_assoc, length-append}
+use Rattle.std.proofs.Common.{length-take, All}
 use Rattle.std.specs.List.{flat_map}
 use Rattle.httparse.specs.Borrowed.{HoldsSomeRequest}
-use Rattle.httparse.specs.Grammar.{RequestHead, ReadsRequest, Field, IsField, LineEnd, crlf, lf, print_end, print_field, print_request, HasNoRequest, NeverHasRequest}
+use Rattle.httparse.specs.Grammar.{RequestHead, ReadsRequest, Field, IsField, LineEnd, crlf, lf}
+use Rattle.httparse.specs.Grammar.{print_end, print_field, print_request, HasNoRequest}
+use Rattle.httparse.specs.Grammar.{NeverHasRequest}
 use Rattle.httparse.specs.Spans.{RequestExceeds}
 use Rattle.httparse.specs.declared.borrowed.Request.{Request}
 use Rattle.httparse.proofs.GrammarLemmas.{request_unique}

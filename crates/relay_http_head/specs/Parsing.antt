@@ -1,13 +1,15 @@
 -- The head that bytes begin with, if it is within a bound (RFC 9112, sections 3 and 5).
 use Rattle.std.specs.Prelude.{◌≡◌, ◌≤◌, ◌<◌, ℕ, Bool, nat_lt, List, length, take, map}
 use Rattle.httparse.specs.Borrowed.{header_parts, HoldsSomeRequest}
-use Rattle.httparse.specs.Grammar.{RequestHead, ReadsRequest, HasNoRequest, NeverHasRequest, MayBecomeRequest}
+use Rattle.httparse.specs.Grammar.{RequestHead, ReadsRequest, HasNoRequest, NeverHasRequest}
+use Rattle.httparse.specs.Grammar.{MayBecomeRequest}
 use Rattle.httparse.specs.Spans.{name_and_value}
 use Rattle.httparse.specs.declared.borrowed.Request.{Request}
 use Rattle.relay_http_head.specs.Head.{Fields}
 use Rattle.relay_http_head.specs.declared.head.Head.{Head}
 use Rattle.relay_http_head.specs.declared.parsing.Parsed.{Parsed}
-use Rattle.relay_http_head.specs.declared.parsing.Parsed.TheVariants.{Complete, Partial, TooLong, Invalid}
+use Rattle.relay_http_head.specs.declared.parsing.Parsed.TheVariants.{Complete, Partial, TooLong}
+use Rattle.relay_http_head.specs.declared.parsing.Parsed.TheVariants.{Invalid}
 
 -- the parts of a head, and whether any byte follows it
 pub record Parts : Type 0 where

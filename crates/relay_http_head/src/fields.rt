@@ -7,7 +7,8 @@ ghost use Rattle.std.specs.Prelude.{◌≡◌, map, reverse, option_map};
 ghost use Rattle.std.specs.Str.{str_eq_ignore_ascii_case};
 ghost use Rattle.httparse.specs.Borrowed.{header_parts};
 ghost use Rattle.httparse.specs.Grammar.{skip_ows, trim_ows};
-ghost use Rattle.relay_http_head.specs.Head.{count_of, first_value, only_value, has_field, lists, has_element};
+ghost use Rattle.relay_http_head.specs.Head.{count_of, first_value, only_value, has_field, lists};
+ghost use Rattle.relay_http_head.specs.Head.{has_element};
 
 use httparse::Header;
 

@@ -165,8 +165,10 @@ fn counted(alloc: Global, counts: &MessageCounts) -> Came {
     let (watch, resume, edit) = (by.watch, by.resume, by.edit);
     let (full, heavy, memory) = (by.patches, by.weight, by.memory);
     format!(in alloc;
-        "{replies} {refusals} {patches}, watch {watch}, resume {resume}, edit {edit}, patches {full}, weight {heavy}, memory {memory}"
-    ).ok()
+        "{replies} {refusals} {patches}, watch {watch}, resume {resume}, edit {edit}, patches \
+         {full}, weight {heavy}, memory {memory}"
+    )
+    .ok()
 }
 
 /// Whether a number lies within two others, which stand in one text.

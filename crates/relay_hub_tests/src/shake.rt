@@ -6,12 +6,19 @@ use relay_shake::{Shake, refusal, shake};
 use relay_test_stream::{Subject, cut, play};
 use std::alloc::{AllocGlobal, Global};
 
-const SAMPLE: &str =
-    "GET /rooms/a HTTP/1.1\r\nHost: localhost\r\nUpgrade: websocket\r\nConnection: keep-alive, Upgrade\r\nSec-WebSocket-Key: dGhlIHNhbXBsZSBub25jZQ==\r\nSec-WebSocket-Version: 13\r\nSec-WebSocket-Extensions: permessage-deflate\r\n\r\n";
+const SAMPLE: &str = "GET /rooms/a HTTP/1.1\r\n\
+     Host: localhost\r\n\
+     Upgrade: websocket\r\n\
+     Connection: keep-alive, Upgrade\r\n\
+     Sec-WebSocket-Key: dGhlIHNhbXBsZSBub25jZQ==\r\n\
+     Sec-WebSocket-Version: 13\r\n\
+     Sec-WebSocket-Extensions: permessage-deflate\r\n\r\n";
 
 /// The part of an accepting reply before the accept value.
-const SWITCH: &str =
-    "HTTP/1.1 101 Switching Protocols\r\nUpgrade: websocket\r\nConnection: Upgrade\r\nSec-WebSocket-Accept: ";
+const SWITCH: &str = "HTTP/1.1 101 Switching Protocols\r\n\
+     Upgrade: websocket\r\n\
+     Connection: Upgrade\r\n\
+     Sec-WebSocket-Accept: ";
 
 /// Of an acceptance a row wants the room, `read-only` if that is the access, and the accept value,
 /// and of a refusal the status. `s3pPLMBiTxaQ9kYGzzhZRbK+xOo=` is the accept value of the sample's
@@ -208,13 +215,22 @@ fn refused(status: u16) -> &'static str {
     match status {
         404 => "HTTP/1.1 404 Not Found\r\nContent-Length: 0\r\nConnection: close\r\n\r\n",
         405 => {
-            "HTTP/1.1 405 Method Not Allowed\r\nAllow: GET\r\nContent-Length: 0\r\nConnection: close\r\n\r\n"
+            "HTTP/1.1 405 Method Not Allowed\r\n\
+             Allow: GET\r\n\
+             Content-Length: 0\r\n\
+             Connection: close\r\n\r\n"
         }
         426 => {
-            "HTTP/1.1 426 Upgrade Required\r\nUpgrade: websocket\r\nSec-WebSocket-Version: 13\r\nContent-Length: 0\r\nConnection: close, Upgrade\r\n\r\n"
+            "HTTP/1.1 426 Upgrade Required\r\n\
+             Upgrade: websocket\r\n\
+             Sec-WebSocket-Version: 13\r\n\
+             Content-Length: 0\r\n\
+             Connection: close, Upgrade\r\n\r\n"
         }
         431 => {
-            "HTTP/1.1 431 Request Header Fields Too Large\r\nContent-Length: 0\r\nConnection: close\r\n\r\n"
+            "HTTP/1.1 431 Request Header Fields Too Large\r\n\
+             Content-Length: 0\r\n\
+             Connection: close\r\n\r\n"
         }
         503 => "HTTP/1.1 503 Service Unavailable\r\nContent-Length: 0\r\nConnection: close\r\n\r\n",
         _ => "HTTP/1.1 400 Bad Request\r\nContent-Length: 0\r\nConnection: close\r\n\r\n",

@@ -1,5 +1,6 @@
 -- In which rooms clients may enter once one name was added or removed.
-use Rattle.std.proofs.Common.{◌≡◌, ◌≢◌, ℕ, Bool, false, List, String, Global, string_bytes, bytes_eq, sym, ◌∙◌}
+use Rattle.std.proofs.Common.{◌≡◌, ◌≢◌, ℕ, Bool, false, List, String, Global, string_bytes}
+use Rattle.std.proofs.Common.{bytes_eq, sym, ◌∙◌}
 use Rattle.std.proofs.lemmas.Bool.{cond-false, false_from_ne_true}
 use Rattle.std.proofs.lemmas.Map.Text.{hash_set_updates_text}
 use Rattle.std.proofs.lemmas.Slice.Eq.{bytes_eq-Decides}

@@ -1,5 +1,6 @@
 -- Lemmas about `Follows`.
-use Rattle.std.proofs.Common.{◌≡◌, ℕ, List, [], ◌∷◌, ◌++◌, Option, Some, None, refl, sym, subst, subst₂, ap, ◌∙◌, append_assoc, append-nil}
+use Rattle.std.proofs.Common.{◌≡◌, ℕ, List, [], ◌∷◌, ◌++◌, Option, Some, None, refl, sym, subst}
+use Rattle.std.proofs.Common.{subst₂, ap, ◌∙◌, append_assoc, append-nil}
 use Rattle.relay_hub.specs.State.{State as Hub}
 use Rattle.relay_hub.specs.Step.{Step}
 use Rattle.relay_hub.specs.declared.event.Answer.{Answer}
@@ -9,7 +10,8 @@ use Rattle.relay_access.specs.declared.access.Access.{Access}
 use Rattle.relay_link.specs.Asks.{asked_by}
 use Rattle.relay_link.specs.Stage.{session_of}
 use Rattle.relay_link.specs.declared.state.State.{State}
-use Rattle.relay_link.specs.Follows.{Point, Rooms, at, IsOwn, no_opening, session_after, Follows, stays, makes, drawn_by, drawn}
+use Rattle.relay_link.specs.Follows.{Point, Rooms, at, IsOwn, no_opening, session_after, Follows}
+use Rattle.relay_link.specs.Follows.{stays, makes, drawn_by, drawn}
 use Rattle.relay_link.specs.Visits.{opened_by, openings}
 
 module _ {rooms : Rooms} where

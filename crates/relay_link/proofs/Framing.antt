@@ -1,5 +1,6 @@
 -- What the calls of a socket frame.
-use Rattle.std.proofs.Common.{◌≡◌, ℕ, List, [], ◌++◌, Option, None, Some, Ok, Err, Result, IfErr, OnOk, refl, sym, subst, ap, ◌∙◌, append_assoc, append-nil}
+use Rattle.std.proofs.Common.{◌≡◌, ℕ, List, [], ◌++◌, Option, None, Some, Ok, Err, Result, IfErr}
+use Rattle.std.proofs.Common.{OnOk, refl, sym, subst, ap, ◌∙◌, append_assoc, append-nil}
 use Rattle.std.specs.Io.KnownBytes.{Appends, Keeps, append_known}
 use Rattle.std.proofs.KnownBytes.{append_known-moved}
 use Rattle.websocket.specs.declared.error.Error.{Error as FrameError}
@@ -8,7 +9,8 @@ use Rattle.websocket.specs.declared.protocol.config.Role.TheVariants.{Server}
 use Rattle.websocket.specs.declared.protocol.frame.coding.Data.TheVariants.{Text}
 use Rattle.websocket.specs.declared.protocol.frame.coding.OpCode.{OpCode}
 use Rattle.websocket.specs.declared.protocol.frame.coding.OpCode.TheVariants.{Data}
-use Rattle.websocket.specs.Connection.{Connection, IsMaskOf, check_can_write, send, write_step, whole_header}
+use Rattle.websocket.specs.Connection.{Connection, IsMaskOf, check_can_write, send, write_step}
+use Rattle.websocket.specs.Connection.{whole_header}
 use Rattle.websocket.specs.Content.{text}
 use Rattle.websocket.specs.Frame.{Checked, after_check, encode_frame}
 use Rattle.websocket.specs.View.{Leaves}

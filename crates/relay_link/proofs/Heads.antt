@@ -1,5 +1,6 @@
 -- What the bytes of a head ask for.
-use Rattle.std.proofs.Common.{◌≡◌, ◌≤◌, ℕ, false, List, [], ◌++◌, length, Option, Some, Result, Ok, Err, is_ok, is_err, if◌then◌else◌, subst, sym, append-nil, arith}
+use Rattle.std.proofs.Common.{◌≡◌, ◌≤◌, ℕ, false, List, [], ◌++◌, length, Option, Some, Result, Ok}
+use Rattle.std.proofs.Common.{Err, is_ok, is_err, if◌then◌else◌, subst, sym, append-nil, arith}
 use Rattle.std.specs.Io.KnownBytes.{Consumes}
 use Rattle.std.proofs.KnownBytes.{Consumes-nil}
 use Rattle.relay_shake.specs.Shaken.{AnswersHead, AnswersNoHead}

@@ -1,5 +1,7 @@
 -- How what a link reads and what it passes to the hub go on together.
-use Rattle.std.proofs.Common.{◌≡◌, inl, inr, ℕ, zero, suc, Bool, true, false, if◌then◌else◌, List, [], ◌∷◌, ◌++◌, Option, None, Some, Result, Ok, Err, OnOk, refl, sym, subst, ap, ◌∙◌, append_assoc, append-nil, arith}
+use Rattle.std.proofs.Common.{◌≡◌, inl, inr, ℕ, zero, suc, Bool, true, false, if◌then◌else◌, List}
+use Rattle.std.proofs.Common.{[], ◌∷◌, ◌++◌, Option, None, Some, Result, Ok, Err, OnOk, refl, sym}
+use Rattle.std.proofs.Common.{subst, ap, ◌∙◌, append_assoc, append-nil, arith}
 use Rattle.tungstenite.specs.Socket.{Socket, Reads}
 use Rattle.tungstenite.specs.declared.error.Error.{Error}
 use Rattle.tungstenite.specs.declared.message.Message.{Message}
@@ -8,7 +10,9 @@ use Rattle.relay_hub.specs.State.{State as Hub, session_of as hub_session}
 use Rattle.relay_hub.specs.declared.event.Event.{Event}
 use Rattle.relay_hub.specs.declared.event.Event.TheVariants.{Receive}
 use Rattle.relay_link.specs.Follows.{closing_of}
-use Rattle.relay_link.specs.Hears.{received_by, received, Passes, allowed_reads, text_of, ends_link, ReadsOn, ReadsOnce, Finds, Hears, HearsUnlessBlocked, PassesOn, SendsAndPassesOn, GoesOn, BeginsFresh, ReadsTexts, PassesTexts}
+use Rattle.relay_link.specs.Hears.{received_by, received, Passes, allowed_reads, text_of, ends_link}
+use Rattle.relay_link.specs.Hears.{ReadsOn, ReadsOnce, Finds, Hears, HearsUnlessBlocked, PassesOn}
+use Rattle.relay_link.specs.Hears.{SendsAndPassesOn, GoesOn, BeginsFresh, ReadsTexts, PassesTexts}
 use Rattle.relay_link.specs.Stage.{stage_of, session_of, entered, IsForward}
 use Rattle.relay_link.specs.Stream.{stream_of, is_blocked}
 use Rattle.relay_link.specs.Tells.{Hearing}

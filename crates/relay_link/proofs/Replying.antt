@@ -1,5 +1,7 @@
 -- What a link wrote of a reply, and what it keeps.
-use Rattle.std.proofs.Common.{◌≡◌, ℕ, Bool, true, false, string_bytes, List, [], ◌++◌, take, drop, Option, Result, is_ok, is_err, if◌then◌else◌, refl, sym, subst, ap, ◌∙◌, append_assoc, append-nil, Vec, Global, String}
+use Rattle.std.proofs.Common.{◌≡◌, ℕ, Bool, true, false, string_bytes, List, [], ◌++◌, take, drop}
+use Rattle.std.proofs.Common.{Option, Result, is_ok, is_err, if◌then◌else◌, refl, sym, subst, ap}
+use Rattle.std.proofs.Common.{◌∙◌, append_assoc, append-nil, Vec, Global, String}
 use Rattle.std.proofs.KnownBytes.{Appends-trans, Appends-nil}
 use Rattle.std.proofs.lemmas.List.{take-append-drop}
 use Rattle.std.specs.Io.KnownBytes.{Appends, Keeps, Consumes}

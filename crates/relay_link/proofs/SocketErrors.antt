@@ -4,7 +4,13 @@ use Rattle.websocket.specs.Connection.{Connection, Effect}
 use Rattle.websocket.specs.declared.error.Error.{Error as FrameError}
 use Rattle.websocket.specs.declared.error.Error.TheVariants as frame
 use Rattle.tungstenite.specs.declared.error.Error.{Error}
-use Rattle.tungstenite.specs.declared.error.Error.TheVariants.{ConnectionClosed, AlreadyClosed, Io, Capacity, Protocol, WriteBufferFull, Utf8, AttackAttempt, Handshake, HandshakeIncomplete, JunkAfterRequest, CustomResponseSuccessful, Url, Http, Refused, OutOfMemory}
+use Rattle.tungstenite.specs.declared.error.Error.TheVariants.{ConnectionClosed, AlreadyClosed, Io}
+use Rattle.tungstenite.specs.declared.error.Error.TheVariants.{Capacity, Protocol, WriteBufferFull}
+use Rattle.tungstenite.specs.declared.error.Error.TheVariants.{Utf8, AttackAttempt, Handshake}
+use Rattle.tungstenite.specs.declared.error.Error.TheVariants.{HandshakeIncomplete}
+use Rattle.tungstenite.specs.declared.error.Error.TheVariants.{JunkAfterRequest}
+use Rattle.tungstenite.specs.declared.error.Error.TheVariants.{CustomResponseSuccessful, Url, Http}
+use Rattle.tungstenite.specs.declared.error.Error.TheVariants.{Refused, OutOfMemory}
 use Rattle.tungstenite.specs.Failure.{of_frame, IsOutside, ReadFails, WriteFails}
 use Rattle.tungstenite.specs.Socket.{Socket, Reads}
 use Rattle.relay_link.specs.SocketError.{IsOfSocket}

@@ -1,5 +1,7 @@
 -- Why draws stop.
-use Rattle.std.proofs.Common.{◌≡◌, ◌+◌, ◌≤◌, ◌==◌, ℕ, true, List, [], ◌∷◌, ◌++◌, Option, Some, None, option_map, slice_get, nat_eq, Result, Ok, Err, IfOk, OnOk, refl, ap, ◌∙◌, arith}
+use Rattle.std.proofs.Common.{◌≡◌, ◌+◌, ◌≤◌, ◌==◌, ℕ, true, List, [], ◌∷◌, ◌++◌, Option, Some, None}
+use Rattle.std.proofs.Common.{option_map, slice_get, nat_eq, Result, Ok, Err, IfOk, OnOk, refl, ap}
+use Rattle.std.proofs.Common.{◌∙◌, arith}
 use Rattle.std.proofs.lemmas.Bool.Decides.{nat_tests}
 use Rattle.std.proofs.lemmas.List.Sums.{sum_by-append}
 use Rattle.std.specs.Map.{lookup}

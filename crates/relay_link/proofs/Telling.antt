@@ -1,5 +1,8 @@
 -- How what a link draws and what it frames go on together.
-use Rattle.std.proofs.Common.{◌≡◌, ℕ, Bool, true, false, if◌then◌else◌, Result, Ok, Err, IfOk, OnOk, OnErr, arith, List, [], ◌∷◌, ◌++◌, Option, Some, None, option_map, String, Global, string_bytes, IsUtf8, refl, sym, subst, ap, ◌∙◌, append_assoc, append-nil}
+use Rattle.std.proofs.Common.{◌≡◌, ℕ, Bool, true, false, if◌then◌else◌, Result, Ok, Err, IfOk, OnOk}
+use Rattle.std.proofs.Common.{OnErr, arith, List, [], ◌∷◌, ◌++◌, Option, Some, None, option_map}
+use Rattle.std.proofs.Common.{String, Global, string_bytes, IsUtf8, refl, sym, subst, ap, ◌∙◌}
+use Rattle.std.proofs.Common.{append_assoc, append-nil}
 use Rattle.std.proofs.ByRecursion.{All-append}
 use Rattle.std.proofs.KnownBytes.{Appends-trans, Appends-nil}
 use Rattle.std.proofs.lemmas.Str.{IsUtf8-string_bytes}
@@ -10,11 +13,14 @@ use Rattle.relay_hub.specs.State.{State as Hub}
 use Rattle.relay_hub.specs.Step.{Step}
 use Rattle.relay_hub.specs.declared.event.Answer.{Answer}
 use Rattle.relay_hub.specs.declared.event.Event.{Event}
-use Rattle.relay_link.specs.Follows.{Point, at, IsOwn, no_opening, session_after, Follows, stays, makes, given, drawn_by, drawn}
+use Rattle.relay_link.specs.Follows.{Point, at, IsOwn, no_opening, session_after, Follows, stays}
+use Rattle.relay_link.specs.Follows.{makes, given, drawn_by, drawn}
 use Rattle.relay_link.specs.Frames.{text_frame, text_frames, framed, Frames}
 use Rattle.relay_link.specs.Stage.{stage_of, is_over, IsForward}
-use Rattle.relay_link.specs.Hears.{allowed_reads, Passes, HearsUnlessBlocked, SendsAndPassesOn, GoesOn, ReadsTexts}
-use Rattle.relay_link.specs.Tells.{Drew, Tells, Hearing, Exchanges, Talks, IsServing, IfOpen, WhileOpen, Told, Answered}
+use Rattle.relay_link.specs.Hears.{allowed_reads, Passes, HearsUnlessBlocked, SendsAndPassesOn}
+use Rattle.relay_link.specs.Hears.{GoesOn, ReadsTexts}
+use Rattle.relay_link.specs.Tells.{Drew, Tells, Hearing, Exchanges, Talks, IsServing, IfOpen}
+use Rattle.relay_link.specs.Tells.{WhileOpen, Told, Answered}
 use Rattle.relay_link.specs.declared.stage.Stage.TheVariants as stage
 use Rattle.relay_link.specs.declared.state.State.{State}
 use Rattle.relay_link.specs.declared.turn.Turn.{Turn}
@@ -22,7 +28,8 @@ use Rattle.relay_link.specs.declared.state.State.TheVariants.{Head, Replying, Op
 use Rattle.relay_link.specs.declared.corked_writer.CorkedWriter.{CorkedWriter}
 use Rattle.relay_link.specs.Stream.{is_blocked}
 use Rattle.relay_link.specs.Terms.{Serves}
-use Rattle.relay_link.proofs.Hearing.{reads_on_same, reads_on_then, terms_kept, hears_at_most, hearing_blocked, hearing_then, passes_then}
+use Rattle.relay_link.proofs.Hearing.{reads_on_same, reads_on_then, terms_kept, hears_at_most}
+use Rattle.relay_link.proofs.Hearing.{hearing_blocked, hearing_then, passes_then}
 use Rattle.relay_link.proofs.Following.{went_on}
 use Rattle.relay_link.proofs.Terms.{keeps_then, serves_then}
 

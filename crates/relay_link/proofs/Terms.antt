@@ -1,5 +1,6 @@
 -- A connection keeps its terms through all that it reads.
-use Rattle.std.proofs.Common.{◌≡◌, ℕ, List, [], ◌∷◌, ◌++◌, Bool, true, false, Option, None, Some, Result, Ok, Err, drop, refl, sym, subst, ap, ◌∙◌}
+use Rattle.std.proofs.Common.{◌≡◌, ℕ, List, [], ◌∷◌, ◌++◌, Bool, true, false, Option, None, Some}
+use Rattle.std.proofs.Common.{Result, Ok, Err, drop, refl, sym, subst, ap, ◌∙◌}
 use Rattle.websocket.specs.declared.error.Error.{Error as FrameError}
 use Rattle.websocket.specs.declared.protocol.frame.codec.FrameStatus.TheVariants.{Complete}
 use Rattle.websocket.specs.declared.protocol.frame.coding.CloseCode.{CloseCode}
@@ -11,7 +12,11 @@ use Rattle.websocket.specs.declared.protocol.frame.coding.OpCode.{OpCode}
 use Rattle.websocket.specs.declared.protocol.frame.coding.OpCode.TheVariants as op
 use Rattle.websocket.specs.declared.protocol.incomplete.MessageType.{MessageType}
 use Rattle.websocket.specs.declared.protocol.incomplete.MessageType.TheVariants as kind
-use Rattle.websocket.specs.Connection.{Connection, Effect, can_write, has_allowed_code, decode_close, on_close, on_short_control, on_control, complete_message, check_so_far, deliver, on_message_bytes, on_data_after, on_data, check_header, on_opcode, on_frame, read_step}
+use Rattle.websocket.specs.Connection.{Connection, Effect, can_write, has_allowed_code}
+use Rattle.websocket.specs.Connection.{decode_close, on_close, on_short_control, on_control}
+use Rattle.websocket.specs.Connection.{complete_message, check_so_far, deliver, on_message_bytes}
+use Rattle.websocket.specs.Connection.{on_data_after, on_data, check_header, on_opcode, on_frame}
+use Rattle.websocket.specs.Connection.{read_step}
 use Rattle.websocket.specs.Content.{Content}
 use Rattle.websocket.specs.Frame.{check_size}
 use Rattle.websocket.proofs.StreamLemmas.{after_check_passed, TookFrame_from_read}

@@ -1,5 +1,8 @@
 -- How the parts of a visit go on together.
-use Rattle.std.proofs.Common.{◌≡◌, ◌⊎◌, inl, inr, ◌≤◌, ◌<◌, ◌+◌, ℕ, true, false, List, [], ◌∷◌, ◌++◌, map, length, Option, Some, None, option_to_list, is_some, Result, Ok, Err, OnOk, String, Global, string_bytes, refl, sym, subst, ap, ◌∙◌, append-nil, arith}
+use Rattle.std.proofs.Common.{◌≡◌, ◌⊎◌, inl, inr, ◌≤◌, ◌<◌, ◌+◌, ℕ, true, false, List, [], ◌∷◌}
+use Rattle.std.proofs.Common.{◌++◌, map, length, Option, Some, None, option_to_list, is_some}
+use Rattle.std.proofs.Common.{Result, Ok, Err, OnOk, String, Global, string_bytes, refl, sym, subst}
+use Rattle.std.proofs.Common.{ap, ◌∙◌, append-nil, arith}
 use Rattle.std.proofs.lemmas.List.{map-append}
 use Rattle.std.proofs.lemmas.List.Sums.{sum_by-append}
 use Rattle.relay_hub.specs.Call.{StepIf, opening}
@@ -14,14 +17,17 @@ use Rattle.relay_hub.specs.declared.fault.OpenFault.{OpenFault}
 use Rattle.relay_hub.specs.declared.fault.OpenFault.TheVariants as fault
 use Rattle.relay_access.specs.declared.access.Access.{Access}
 use Rattle.relay_link.specs.Adds.{Adds, draws}
-use Rattle.relay_link.specs.Follows.{Point, Rooms, is_room, at, session_after, Follows, stays, makes, drawn}
+use Rattle.relay_link.specs.Follows.{Point, Rooms, is_room, at, session_after, Follows, stays}
+use Rattle.relay_link.specs.Follows.{makes, drawn}
 use Rattle.relay_link.specs.Hears.{Passes}
 use Rattle.relay_link.specs.Tells.{Drew}
-use Rattle.relay_link.specs.Visits.{Opens, entered_as, opening_of, heard_in, DrewAll, IfAnswered, Visits}
+use Rattle.relay_link.specs.Visits.{Opens, entered_as, opening_of, heard_in, DrewAll, IfAnswered}
+use Rattle.relay_link.specs.Visits.{Visits}
 use Rattle.relay_link.specs.declared.visit.TheConstants.{MAX_TEXTS}
 use Rattle.relay_link.specs.declared.visit.Visit.{Visit}
 use Rattle.relay_link.specs.declared.visit_outcome.VisitOutcome.{VisitOutcome}
-use Rattle.relay_link.specs.declared.visit_outcome.VisitOutcome.TheVariants.{Refused, Unheard, Undrawn, Answered}
+use Rattle.relay_link.specs.declared.visit_outcome.VisitOutcome.TheVariants.{Refused, Unheard}
+use Rattle.relay_link.specs.declared.visit_outcome.VisitOutcome.TheVariants.{Undrawn, Answered}
 use Rattle.relay_link.proofs.Following.{went_on}
 use Rattle.relay_link.proofs.Telling.{drew_then}
 

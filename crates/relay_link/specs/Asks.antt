@@ -1,5 +1,6 @@
 -- The room that a head asks for, and the access to it.
-use Rattle.std.specs.Prelude.{◌≡◌, ◌≤◌, ℕ, List, [], ◌++◌, length, Bool, true, false, Option, Some, None, string_bytes, ⊤}
+use Rattle.std.specs.Prelude.{◌≡◌, ◌≤◌, ℕ, List, [], ◌++◌, length, Bool, true, false, Option, Some}
+use Rattle.std.specs.Prelude.{None, string_bytes, ⊤}
 use Rattle.std.specs.Io.KnownBytes.{Consumes}
 use Rattle.relay_shake.specs.Shaken.{AnswersHead, AnswersNoHead}
 use Rattle.relay_shake.specs.declared.answer.Shake.{Shake}
@@ -56,7 +57,7 @@ module _ {S : Type 0} where
       × (received ≡ bytes.items ++ taken)
   IsReceived remaining now received _ = ⊥
 
-  -- a link that waits for a head after a turn
+  -- if a link still waits for a head after a turn, it received what its stream gave in the turn
   abbrev pub Receives : (S → Option (List ℕ)) → State S → State S → Type 0
   Receives remaining old (Head stream bytes) =
       IsReceived remaining (stream_of stream) bytes.items old

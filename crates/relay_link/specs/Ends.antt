@@ -2,7 +2,9 @@
 use Rattle.std.specs.Prelude.{ℕ, ◌+◌, ◌≢◌, Some, None, Result, Ok, Err}
 use Rattle.tungstenite.specs.Socket.{Socket}
 use Rattle.tungstenite.specs.declared.error.Error.{Error}
-use Rattle.tungstenite.specs.declared.error.Error.TheVariants.{ConnectionClosed, AlreadyClosed, Io, Capacity, Protocol, WriteBufferFull, Utf8, OutOfMemory}
+use Rattle.tungstenite.specs.declared.error.Error.TheVariants.{ConnectionClosed, AlreadyClosed, Io}
+use Rattle.tungstenite.specs.declared.error.Error.TheVariants.{Capacity, Protocol, WriteBufferFull}
+use Rattle.tungstenite.specs.declared.error.Error.TheVariants.{Utf8, OutOfMemory}
 use Rattle.websocket.specs.declared.error.ProtocolError.{ProtocolError}
 use Rattle.websocket.specs.declared.error.ProtocolError.TheVariants.{ResetWithoutClosingHandshake}
 use Rattle.relay_link.specs.declared.end_cause.EndCause.{EndCause}

@@ -1,5 +1,6 @@
 -- In which rooms clients may enter, and what those are told who may not.
-use Rattle.std.specs.Prelude.{◌≡◌, ℕ, ◌==◌, ◌&&◌, nat_le, not, length, Bool, true, false, List, bytes_eq, string_bytes}
+use Rattle.std.specs.Prelude.{◌≡◌, ℕ, ◌==◌, ◌&&◌, nat_le, not, length, Bool, true, false, List}
+use Rattle.std.specs.Prelude.{bytes_eq, string_bytes}
 use Rattle.std.specs.List.{list_any}
 use Rattle.relay_access.specs.declared.access.Access.{Access}
 use Rattle.relay_shake.specs.Replies.{closed_refusal, refusal_of}

@@ -22,10 +22,11 @@ at hub session events = record { hub = hub; session = session; events = events }
 abbrev pub Rooms : Type 1
 Rooms = List ℕ → Access → Type 0
 
--- no session is opened, or one in this room with this access
+-- no session is opened
 abbrev pub no_opening : Rooms
 no_opening room access = ⊥
 
+-- a session may be opened in this room, with this access
 abbrev pub is_room : List ℕ → Access → Rooms
 is_room name given room access = (room ≡ name) × (access ≡ given)
 

@@ -1,5 +1,7 @@
 -- What a link hears in a turn: the text that it reads, which it passes to the hub in the same turn.
-use Rattle.std.specs.Prelude.{◌≡◌, ◌⊎◌, ⊤, ℕ, Bool, true, false, zero, suc, length, sum_by, List, [], ◌∷◌, ◌++◌, if◌then◌else◌, Option, None, Some, option_and_then, Result, Ok, Err}
+use Rattle.std.specs.Prelude.{◌≡◌, ◌⊎◌, ⊤, ℕ, Bool, true, false, zero, suc, length, sum_by, List}
+use Rattle.std.specs.Prelude.{[], ◌∷◌, ◌++◌, if◌then◌else◌, Option, None, Some, option_and_then}
+use Rattle.std.specs.Prelude.{Result, Ok, Err}
 use Rattle.relay_hub.specs.Queries.{may_hear}
 use Rattle.relay_hub.specs.State.{State as Hub, session_of}
 use Rattle.relay_hub.specs.declared.event.Event.{Event}

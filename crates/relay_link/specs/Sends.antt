@@ -14,7 +14,8 @@ use Rattle.relay_link.specs.declared.state.State.TheVariants.{Open}
 module _ {S : Type 0} where
   -- an open link framed these texts, and may have read before
   pub data FramesInTurn (remaining contents : S → Option (List ℕ)) (hub : Hub) (session : ℕ)
-      (events : List Event) (old new : Socket (CorkedWriter S)) (texts : List (List ℕ)) : Type 0 where
+      (events : List Event) (old new : Socket (CorkedWriter S)) (texts : List (List ℕ))
+      : Type 0 where
     writes : FramesTexts contents old new texts
         → FramesInTurn remaining contents hub session events old new texts
     reads : (heard : Socket (CorkedWriter S))

@@ -1,5 +1,6 @@
 -- The stage and the session of a link.
-use Rattle.std.specs.Prelude.{◌≡◌, ⊤, ℕ, ◌≤◌, ◌&&◌, ◌==◌, length, Bool, true, false, not, Option, Some, None}
+use Rattle.std.specs.Prelude.{◌≡◌, ⊤, ℕ, ◌≤◌, ◌&&◌, ◌==◌, length, Bool, true, false, not, Option}
+use Rattle.std.specs.Prelude.{Some, None}
 use Rattle.std.specs.Io.Buffered.{writer_buffer, writer_inner}
 use Rattle.relay_link.specs.Stream.{has_failed}
 use Rattle.relay_link.specs.declared.end_cause.EndCause.{EndCause}

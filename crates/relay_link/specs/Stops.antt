@@ -1,5 +1,6 @@
 -- Why a turn of an open link draws no more.
-use Rattle.std.specs.Prelude.{◌≡◌, ◌+◌, ◌<◌, ℕ, true, List, Option, None, Some, option_map, IfSome, IsSomeAnd}
+use Rattle.std.specs.Prelude.{◌≡◌, ◌+◌, ◌<◌, ℕ, true, List, Option, None, Some, option_map, IfSome}
+use Rattle.std.specs.Prelude.{IsSomeAnd}
 use Rattle.relay_hub.specs.Session.{waiting}
 use Rattle.relay_hub.specs.State.{State as Hub, session_of}
 use Rattle.relay_hub.specs.declared.event.Event.{Event}

@@ -1,5 +1,7 @@
 -- The contract of a visit: a session that opens, says one text, draws what waits and closes.
-use Rattle.std.specs.Prelude.{◌≡◌, ◌+◌, ◌<◌, ◌≤◌, ◌⊎◌, ⊤, ℕ, Bool, true, false, List, [], ◌∷◌, ◌++◌, map, length, Option, None, Some, option_to_list, Result, Ok, Err, string_bytes}
+use Rattle.std.specs.Prelude.{◌≡◌, ◌+◌, ◌<◌, ◌≤◌, ◌⊎◌, ⊤, ℕ, Bool, true, false, List, [], ◌∷◌, ◌++◌}
+use Rattle.std.specs.Prelude.{map, length, Option, None, Some, option_to_list, Result, Ok, Err}
+use Rattle.std.specs.Prelude.{string_bytes}
 use Rattle.relay_hub.specs.Call.{opening}
 use Rattle.relay_hub.specs.State.{State as Hub}
 use Rattle.relay_hub.specs.declared.event.Answer.{Answer}
@@ -15,7 +17,8 @@ use Rattle.relay_link.specs.Hears.{received}
 use Rattle.relay_link.specs.declared.visit.TheConstants.{MAX_TEXTS}
 use Rattle.relay_link.specs.declared.visit.Visit.{Visit}
 use Rattle.relay_link.specs.declared.visit_outcome.VisitOutcome.{VisitOutcome}
-use Rattle.relay_link.specs.declared.visit_outcome.VisitOutcome.TheVariants.{Refused, Unheard, Undrawn, Answered}
+use Rattle.relay_link.specs.declared.visit_outcome.VisitOutcome.TheVariants.{Refused, Unheard}
+use Rattle.relay_link.specs.declared.visit_outcome.VisitOutcome.TheVariants.{Undrawn, Answered}
 
 -- the answers to the openings among the events between two points, in order
 abbrev pub opened_by : Event → Answer → List Answer

@@ -41,7 +41,7 @@ pub(crate) fn turn<S: Read + Write + Drop>(mut socket: Socket<S>, turns: u64) ->
     }
 }
 
-/// Sends pending output, then reads one message and drops it. The flush behind a message lets the
+/// Sends unsent output, then reads one message and drops it. The flush behind a message lets the
 /// stream know that another turn was asked for.
 fn let_go<S: Read + Write + Drop>(socket: &mut Socket<S>) -> Result<(), EndCause>
     ensures { IfErr result IsNotSilent }

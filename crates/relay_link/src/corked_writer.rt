@@ -124,7 +124,7 @@ impl<S: Write + Drop> CorkedWriter<S> {
         self.is_corked && self.has_output()
     }
 
-    /// Whether the stream's last write or flush failed, so that output may be pending.
+    /// Whether the stream's last write or flush failed, so that output may be unsent.
     pub(crate) fn is_blocked(&self) -> bool
         ensures { result ≡ is_blocked self.now }
     {

@@ -18,7 +18,7 @@ pub enum DrawStop {
     Empty,
     /// It drew as many as it may.
     Limit,
-    /// The stream takes no output now, so that output may be pending. If it took none when the turn
+    /// The stream takes no output now, so that output may be unsent. If it took none when the turn
     /// began, nothing was heard or drawn.
     Pending,
     /// Memory was refused for a message, which still waits.

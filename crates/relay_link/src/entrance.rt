@@ -1,5 +1,6 @@
 //! In which rooms clients may enter.
-ghost use Rattle.std.specs.Prelude.{◌≡◌, ◌≢◌, ◌↔◌, ℕ, List, true, false, IfErr, IsErr, IsErrOf, OnOk, OnErr};
+ghost use Rattle.std.specs.Prelude.{◌≡◌, ◌≢◌, ◌↔◌, ℕ, List, true, false, IfErr, IsErr, IsErrOf};
+ghost use Rattle.std.specs.Prelude.{OnOk, OnErr};
 ghost use Rattle.relay_link.specs.Entrance.{lets_in, is_closed, is_full};
 
 use crate::entrance_fault::EntranceFault;

@@ -1,5 +1,6 @@
 //! The hub calls that a link makes, each recorded as an event.
-ghost use Rattle.std.specs.Prelude.{◌≡◌, ◌+◌, ◌<◌, [], ◌∷◌, ◌++◌, length, is_some, Some, None, option_map, option_to_list, string_bytes, IfOk, OnOk, OnErr};
+ghost use Rattle.std.specs.Prelude.{◌≡◌, ◌+◌, ◌<◌, [], ◌∷◌, ◌++◌, length, is_some, Some, None};
+ghost use Rattle.std.specs.Prelude.{option_map, option_to_list, string_bytes, IfOk, OnOk, OnErr};
 ghost use Rattle.relay_hub.specs.Call.{opening};
 ghost use Rattle.relay_link.specs.Follows.{Follows, no_opening, is_room, at, given, closing_of};
 ghost use Rattle.relay_link.specs.Hears.{Passes};
@@ -155,7 +156,8 @@ pub(crate) fn close(hub: &mut Hub, session: u64, events: &mut EventLog)
 #[tactic(auto, using(crate::proofs::Following::follows_same))]
 pub(crate) fn end(hub: &mut Hub, session: Option<u64>, events: &mut EventLog)
     requires { length events.old < MAX_EVENTS }
-    ensures follows { Follows no_opening (at hub.old session events.old) (at hub.new None events.new) }
+    ensures follows { Follows no_opening (at hub.old session events.old)
+        (at hub.new None events.new) }
     ensures events { events.new ≡ events.old ++ closing_of session }
 {
     if let Some(session) = session {

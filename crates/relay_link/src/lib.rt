@@ -16,7 +16,7 @@
 //! handshake takes 90 KB more while it is checked. Once a read has filled its 1.25 KiB, the link
 //! reads 8 KiB at once, and costs some 15 KiB more from then on. Longer messages come on top, and
 //! their capacity is kept: one incoming message (at most 1,056,768 bytes), and outgoing texts of up
-//! to 64 KiB together plus one more, since a link draws no further text while output is pending.
+//! to 64 KiB together plus one more, since a link draws no further text while output is unsent.
 #![tactic(auto)]
 
 mod closing;

@@ -1,5 +1,6 @@
 //! A link: one socket, driven by turns.
-ghost use Rattle.std.specs.Prelude.{◌≡◌, ◌+◌, ◌≤◌, [], Some, None, is_some, IfOk, OnOk, OnErr, length};
+ghost use Rattle.std.specs.Prelude.{◌≡◌, ◌+◌, ◌≤◌, [], Some, None, is_some, IfOk, OnOk, OnErr};
+ghost use Rattle.std.specs.Prelude.{length};
 ghost use Rattle.relay_link.specs.Adds.{Adds, texts_of};
 ghost use Rattle.relay_link.specs.Asks.{asked_by, IsFresh, Receives};
 ghost use Rattle.relay_link.specs.BinaryAnswered.{BinaryAnsweredIfOpen};
@@ -8,7 +9,8 @@ ghost use Rattle.relay_link.specs.Entrance.{Within};
 ghost use Rattle.relay_link.specs.Follows.{Follows, no_opening, at, closing_of};
 ghost use Rattle.relay_link.specs.Hears.{PassesTexts};
 ghost use Rattle.relay_link.specs.Replies.{Replies};
-ghost use Rattle.relay_link.specs.Stage.{stage_of, session_of, has_corked_output, is_idle, leaves, ended, IsForward, IsSound};
+ghost use Rattle.relay_link.specs.Stage.{stage_of, session_of, has_corked_output, is_idle, leaves};
+ghost use Rattle.relay_link.specs.Stage.{ended, IsForward, IsSound};
 ghost use Rattle.relay_link.specs.Stops.{StopsIfOpen};
 ghost use Rattle.relay_link.specs.Tells.{IsServing, Talks, WhileOpen, Told, Answered};
 ghost use Rattle.relay_link.specs.Turns.{Turns};
@@ -168,7 +170,7 @@ impl<S: Read + Write + Drop> Link<S> {
     }
 
     /// Runs one turn: it reads a little, changes the hub by the events that it reports, and writes
-    /// until output is pending. It draws at most `draws` messages, and at most 32. `AllocError`
+    /// until its stream is blocked. It draws at most `draws` messages, and at most 32. `AllocError`
     /// comes before anything is read, written or changed.
     ///
     /// - Head: the turn writes the rest of an unfinished reply. Otherwise it reads up to 4,096
@@ -176,12 +178,12 @@ impl<S: Read + Write + Drop> Link<S> {
     ///   if the hub opens none the reply is 503. Once the reply is written the link is Open, or
     ///   Gone with [`EndCause::Refused`]. If the bytes end, the stream fails, or memory runs out
     ///   before that, it is Gone, and a session that was opened is closed.
-    /// - Open: while output is pending the turn only sends. Otherwise it reads one message: a text
+    /// - Open: while output is unsent the turn only sends. Otherwise it reads one message: a text
     ///   is passed to the hub, a ping is answered, a pong has no effect, a binary message is
     ///   answered by a close with 1003, and a close is answered. If the session is busy
     ///   ([`Hub::may_hear`] is false before the turn), it reads nothing, and passes no text to the
-    ///   hub. Then it draws messages, and sends them together, 64 KiB at a time, until output is
-    ///   pending; a draw that is out of memory ends the turn. After a binary message or a close
+    ///   hub. Then it draws messages, and sends them together, 64 KiB at a time, until its stream
+    ///   is blocked; a draw that is out of memory ends the turn. After a binary message or a close
     ///   the link is Closing. If the bytes end, the stream fails, frames violate the protocol, or
     ///   memory runs out, it is Gone.
     /// - Closing: the turn reads one message and drops it. If the other side's close has not
@@ -195,6 +197,11 @@ impl<S: Read + Write + Drop> Link<S> {
     /// before it and is so after it.
     /// [`EndCause::Stream`] comes only if in this very turn a call on the stream failed or a write
     /// accepted no byte.
+    ///
+    /// A link that the turn finds and leaves Open has framed, after its read, the texts that it
+    /// drew, whole, in order, and nothing else (`frames`). It has read once, unless its session is
+    /// busy or its stream takes no output. A link is Open only once its whole reply was written
+    /// (`replies`).
     ///
     /// ```
     /// let wire = Wire::new(alloc);
@@ -213,8 +220,8 @@ impl<S: Read + Write + Drop> Link<S> {
     pub fn turn(&mut self, alloc: Global, hub: &mut Hub, draws: u64) -> Result<Turn, AllocError>
         ensures turns { IfOk result (Turns S.remaining 1 draws hub.old self.old hub.new self.new) }
         ensures frames { IfOk result (λ turn.
-            WhileOpen (Answered S.remaining S.contents) hub.old [] self.old hub.new turn.events.items
-            self.new) }
+            WhileOpen (Answered S.remaining S.contents) hub.old [] self.old
+            hub.new turn.events.items self.new) }
         ensures replies { OnOk result
             (Replies S.remaining S.contents entry.Open self.old self.new) }
         ensures binary { IfOk result
@@ -255,8 +262,8 @@ impl<S: Read + Write + Drop> Link<S> {
             Follows (Within entrance.now) (at hub.old (session_of self.old) [])
             (at hub.new (session_of self.new) turn.events.items)) }
         ensures frames { IfOk result (λ turn.
-            WhileOpen (Answered S.remaining S.contents) hub.old [] self.old hub.new turn.events.items
-            self.new) }
+            WhileOpen (Answered S.remaining S.contents) hub.old [] self.old
+            hub.new turn.events.items self.new) }
         ensures replies { OnOk result
             (Replies S.remaining S.contents entrance.now self.old self.new) }
         ensures binary { IfOk result

@@ -80,7 +80,7 @@ impl<S> NonBlocking<S> {
     }
 
     /// Whether, since the last read turn began, no call was interrupted, and nothing asked for
-    /// another turn. A write does not ask for one: pending output waits until the stream is
+    /// another turn. A write does not ask for one: unsent output waits until the stream is
     /// writable.
     pub(crate) fn is_idle(&self) -> bool
         ensures { result ≡ not self.now.wants_turn }
@@ -93,7 +93,7 @@ impl<S> NonBlocking<S> {
         self.filled
     }
 
-    /// Whether the last write or flush failed, so that output may be pending.
+    /// Whether the last write or flush failed, so that output may be unsent.
     pub(crate) fn is_blocked(&self) -> bool
         ensures { result ≡ self.now.blocked }
     {

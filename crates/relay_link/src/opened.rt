@@ -1,12 +1,14 @@
-//! The turn of an open link: it sends pending output, hears a text, then draws and sends messages.
-ghost use Rattle.std.specs.Prelude.{◌≡◌, ◌≢◌, ◌+◌, ◌≤◌, length, is_some, true, [], Some, IfOk, OnOk, OnErr, IfErr};
+//! The turn of an open link: it sends unsent output, hears a text, then draws and sends messages.
+ghost use Rattle.std.specs.Prelude.{◌≡◌, ◌≢◌, ◌+◌, ◌≤◌, length, is_some, true, [], Some, IfOk};
+ghost use Rattle.std.specs.Prelude.{OnOk, OnErr, IfErr};
 ghost use Rattle.relay_link.specs.Adds.{Adds, texts_of};
 ghost use Rattle.relay_link.specs.BinaryAnswered.{BinaryAnswered, BinaryAnsweredIn};
 ghost use Rattle.relay_link.specs.Ends.{IsNotSilent, cause_of, settled, turns_left};
 ghost use Rattle.relay_link.specs.Follows.{Follows, no_opening, at, given};
 ghost use Rattle.relay_link.specs.Stops.{Stops, StopsIn};
 ghost use Rattle.relay_link.specs.Stage.{leaves, stage_of, session_of, is_over, IsForward};
-ghost use Rattle.relay_link.specs.Hears.{allowed_reads, Finds, Passes, PassesOn, SendsAndPassesOn, ReadsTexts};
+ghost use Rattle.relay_link.specs.Hears.{allowed_reads, Finds, Passes, PassesOn, SendsAndPassesOn};
+ghost use Rattle.relay_link.specs.Hears.{ReadsTexts};
 ghost use Rattle.relay_link.specs.Tells.{Drew, Hearing, Tells, Exchanges, Talks, IfOpen, IsServing};
 ghost use Rattle.relay_link.specs.Terms.{Serves, KeepsTerms};
 ghost use Rattle.relay_link.specs.declared.end_cause.EndCause.TheVariants.{Silent};
@@ -119,7 +121,7 @@ fn finish<S: Read + Write + Drop>(
     }
 }
 
-/// Sends pending output that is not corked. When none is left, the link may hear a text and draws
+/// Sends unsent output that is not corked. When none is left, the link may hear a text and draws
 /// messages; its output is sent, or corked until a write turn. Returns why it drew no more.
 #[tactic(auto, using(crate::proofs::Following::follows_same, crate::proofs::Following::follows_then, crate::proofs::Hearing::sends_none, crate::proofs::Hearing::sends_and_passes, crate::proofs::Telling::talked_none, crate::proofs::Telling::talked, crate::proofs::BinaryAnswered::answered_and_sent))]
 fn serve<S: Read + Write + Drop>(

@@ -122,7 +122,7 @@ fn least_len(message: &Message) -> usize {
     payload.saturating_add(header)
 }
 
-/// Sends pending output. `false` if the stream is blocked, so that output may still be pending.
+/// Sends unsent output. `false` if the stream is blocked, so that output may still be unsent.
 #[tactic(auto, using(crate::proofs::SocketErrors::flush_error, crate::proofs::Framing::flushed))]
 pub(crate) fn flush<S: Read + Write + Drop>(socket: &mut Socket<S>) -> Result<bool, EndCause>
     ensures not_silent { IfErr result IsNotSilent }
@@ -134,7 +134,7 @@ pub(crate) fn flush<S: Read + Write + Drop>(socket: &mut Socket<S>) -> Result<bo
 }
 
 /// Appends a text frame to the collected output. At 64 KiB all of it is sent; `false` if the stream
-/// is blocked then, so that output may still be pending.
+/// is blocked then, so that output may still be unsent.
 #[tactic(auto, using(crate::proofs::SocketErrors::write_error, crate::proofs::Framing::wrote_text))]
 pub(crate) fn write<S: Read + Write + Drop>(
     socket: &mut Socket<S>,
@@ -150,7 +150,7 @@ pub(crate) fn write<S: Read + Write + Drop>(
     Ok(sent || !socket.get_ref().is_blocked())
 }
 
-/// Sends a close frame with an empty reason. `false` if output is still pending.
+/// Sends a close frame with an empty reason. `false` if output is still unsent.
 #[tactic(auto, using(crate::proofs::SocketErrors::write_error, crate::proofs::BinaryAnswered::wrote_close))]
 pub(crate) fn close<S: Read + Write + Drop>(
     socket: &mut Socket<S>,
@@ -167,7 +167,7 @@ pub(crate) fn close<S: Read + Write + Drop>(
     is_sent(socket.close(Some(CloseFrame { code, reason })))
 }
 
-/// Whether a call has sent all pending output.
+/// Whether a call has sent all unsent output.
 fn is_sent(sent: Result<(), Error>) -> Result<bool, EndCause>
     requires { IfErr sent IsOfSocket }
     ensures not_silent { IfErr result IsNotSilent }

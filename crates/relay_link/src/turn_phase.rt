@@ -7,7 +7,7 @@ ghost use Rattle.relay_link.specs.Adds.{texts_of};
 pub(crate) enum TurnPhase {
     /// The link reads, and an open link receives at most one text. Its output stays corked.
     Read,
-    /// The link reads nothing, and sends all pending and corked output.
+    /// The link reads nothing, and sends all unsent and corked output.
     Write,
     /// The link reads, and sends all output.
     Both,

@@ -2,7 +2,8 @@
 //!
 //! It is for a caller without a socket, who asks one thing. Its events are a session's own, like
 //! those of a link's turns, so that what a log says of sessions holds of visits too.
-ghost use Rattle.std.specs.Prelude.{◌≡◌, ◌+◌, ◌≤◌, [], Some, None, Ok, map, length, IfOk, OnOk, OnErr, string_bytes, vec_capacity};
+ghost use Rattle.std.specs.Prelude.{◌≡◌, ◌+◌, ◌≤◌, [], Some, None, Ok, map, length, IfOk, OnOk};
+ghost use Rattle.std.specs.Prelude.{OnErr, string_bytes, vec_capacity};
 ghost use Rattle.relay_link.specs.Adds.{Adds};
 ghost use Rattle.relay_link.specs.Follows.{at};
 ghost use Rattle.relay_link.specs.Hears.{Passes};

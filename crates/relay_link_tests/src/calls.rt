@@ -45,8 +45,18 @@ const TURNS: u64 = 64;
 const MAX_CALLS: u64 = 40;
 
 /// The result of a run without faults: its causes, what session 1 draws, and what is written.
-const WHOLE: &str =
-    "Peer Peer Gone, 0 wrong\n{\"kind\":\"patch\",\"patch\":[{\"op\":\"replace\",\"path\":\"/0\",\"value\":[{\"x\":1}]}],\"rev\":1}\n{\"kind\":\"patch\",\"patch\":[{\"op\":\"replace\",\"path\":\"/0/0/x\",\"value\":2}],\"rev\":2}\n > switched > {\"epoch\":1,\"kind\":\"welcome\",\"rev\":0,\"session\":2} > {\"id\":1,\"kind\":\"watching\"} > {\"kind\":\"snapshot\",\"rev\":0,\"view\":[[null]]} > {\"id\":2,\"kind\":\"done\",\"rev\":1} > {\"kind\":\"patch\",\"patch\":[{\"op\":\"replace\",\"path\":\"/0\",\"value\":[{\"x\":1}]}],\"rev\":1} > {\"id\":3,\"kind\":\"done\",\"rev\":2} > {\"kind\":\"patch\",\"patch\":[{\"op\":\"replace\",\"path\":\"/0/0/x\",\"value\":2}],\"rev\":2} > close 1000\n";
+const WHOLE: &str = "Peer Peer Gone, 0 wrong\n\
+     {\"kind\":\"patch\",\"patch\":[{\"op\":\"replace\",\"path\":\"/0\",\"value\":[{\"x\":1}]}],\"rev\":1}\n\
+     {\"kind\":\"patch\",\"patch\":[{\"op\":\"replace\",\"path\":\"/0/0/x\",\"value\":2}],\"rev\":2}\n \
+     > switched \
+     > {\"epoch\":1,\"kind\":\"welcome\",\"rev\":0,\"session\":2} \
+     > {\"id\":1,\"kind\":\"watching\"} \
+     > {\"kind\":\"snapshot\",\"rev\":0,\"view\":[[null]]} \
+     > {\"id\":2,\"kind\":\"done\",\"rev\":1} \
+     > {\"kind\":\"patch\",\"patch\":[{\"op\":\"replace\",\"path\":\"/0\",\"value\":[{\"x\":1}]}],\"rev\":1} \
+     > {\"id\":3,\"kind\":\"done\",\"rev\":2} \
+     > {\"kind\":\"patch\",\"patch\":[{\"op\":\"replace\",\"path\":\"/0/0/x\",\"value\":2}],\"rev\":2} \
+     > close 1000\n";
 
 /// How the result begins of a run that ends by the peer, by a call that accepts nothing, and by one
 /// that fails.

@@ -3,13 +3,17 @@ use Rattle.std.specs.Prelude.{List, [], ◌∷◌}
 use Rattle.relay_hub.specs.State.{State}
 use Rattle.relay_hub.specs.Step.{DoesWill}
 use Rattle.relay_hub.specs.declared.event.Answer.{Answer}
-use Rattle.relay_hub.specs.declared.event.Answer.TheVariants.{Opened, NotOpened, Heard, Drawn, Closed, WillDone, NoWill, Forgotten, NotForgotten, NoSession}
+use Rattle.relay_hub.specs.declared.event.Answer.TheVariants.{Opened, NotOpened, Heard, Drawn}
+use Rattle.relay_hub.specs.declared.event.Answer.TheVariants.{Closed, WillDone, NoWill, Forgotten}
+use Rattle.relay_hub.specs.declared.event.Answer.TheVariants.{NotForgotten, NoSession}
 use Rattle.relay_hub.specs.declared.event.Event.{Event}
-use Rattle.relay_hub.specs.declared.event.Event.TheVariants.{Open, Receive, Draw, Close, DoWill, Forget}
+use Rattle.relay_hub.specs.declared.event.Event.TheVariants.{Open, Receive, Draw, Close, DoWill}
+use Rattle.relay_hub.specs.declared.event.Event.TheVariants.{Forget}
 use Rattle.relay_hub.specs.declared.will.Will.{Will}
 use Rattle.relay_script.specs.Transport.{HubComes}
 use Rattle.relay_script.specs.declared.outcome.Outcome.{Outcome}
-use Rattle.relay_script.specs.declared.outcome.Outcome.TheVariants.{Answered, NoMemory, Rejected, Stuck}
+use Rattle.relay_script.specs.declared.outcome.Outcome.TheVariants.{Answered, NoMemory, Rejected}
+use Rattle.relay_script.specs.declared.outcome.Outcome.TheVariants.{Stuck}
 use Rattle.relay_loopback.specs.Loopback.{hub_of, CanCome, Comes}
 use Rattle.relay_loopback.specs.declared.loopback.Loopback.{Loopback}
 

@@ -56,7 +56,7 @@ impl<S: Read + Write + Drop> Client<S> {
         Ok(())
     }
 
-    /// Sends pending output. Errors are ignored.
+    /// Sends unsent output. Errors are ignored.
     pub fn send_rest(&mut self) {
         let _ = self.socket.flush();
     }

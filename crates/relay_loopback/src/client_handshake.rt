@@ -48,7 +48,12 @@ impl<S: Read + Write + Drop> ClientHandshake<S> {
     ) -> Result<Option<ClientHandshake<S>>, AllocError> {
         let suffix = suffix_of(access);
         let head = format!(in alloc;
-            "GET /rooms/{room}{suffix} HTTP/1.1\r\nHost: localhost\r\nUpgrade: websocket\r\nConnection: Upgrade\r\nSec-WebSocket-Key: dGhlIHNhbXBsZSBub25jZQ==\r\nSec-WebSocket-Version: 13\r\n\r\n"
+            "GET /rooms/{room}{suffix} HTTP/1.1\r\n\
+             Host: localhost\r\n\
+             Upgrade: websocket\r\n\
+             Connection: Upgrade\r\n\
+             Sec-WebSocket-Key: dGhlIHNhbXBsZSBub25jZQ==\r\n\
+             Sec-WebSocket-Version: 13\r\n\r\n"
         )?;
         if stream.write_all(head.as_bytes()).is_err() {
             return Ok(None);

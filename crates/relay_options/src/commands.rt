@@ -12,28 +12,36 @@ use std::alloc::{AllocError, Global};
 const VERSION: &str = "0.2.0\nRattle logic dac8208d650f15bf";
 
 const ABOUT: &str =
-    "Keeps shared JSON documents in rooms, and tells each watcher what changed in the parts that it watches";
+    "Keeps shared JSON documents in rooms, and tells each watcher what changed in the parts that \
+     it watches";
 
 const EXAMPLE: &str =
-    "Without a subcommand, relay carries out a script, as `relay script` does:\n\n  relay < examples/first.script";
+    "Without a subcommand, relay carries out a script, as `relay script` does:\n\n  \
+     relay < examples/first.script";
 
 const SCRIPT_ABOUT: &str =
     "Carries out a script: lines from standard input, answers to standard output";
 
-const SCRIPT_EXAMPLE: &str =
-    "Example, with two revisions of history and one waiting patch:\n\n  relay script --history 2 --outbox 1 < examples/first.script\n\nA line is `NAME open ROOM`, `NAME say TEXT`, `NAME draw`, `NAME close`, `NAME held` or `NAME truth`.\n\nWeights have no bound unless a --max option gives one.";
+const SCRIPT_EXAMPLE: &str = "Example, with two revisions of history and one waiting patch:\n\n  \
+     relay script --history 2 --outbox 1 < examples/first.script\n\n\
+     A line is `NAME open ROOM`, `NAME say TEXT`, `NAME draw`, `NAME close`, `NAME held` or \
+     `NAME truth`.\n\n\
+     Weights have no bound unless a --max option gives one.";
 
 const LOOP_ABOUT: &str =
     "Carries out a script through loopback sockets, server and clients in one thread";
 
-const LOOP_EXAMPLE: &str =
-    "Example:\n\n  relay loop < examples/first.script\n\nWeights have no bound unless a --max option gives one.";
+const LOOP_EXAMPLE: &str = "Example:\n\n  \
+     relay loop < examples/first.script\n\n\
+     Weights have no bound unless a --max option gives one.";
 
 const SERVE_ABOUT: &str =
-    "Listens on 127.0.0.1, or another address, and serves WebSocket clients; it sleeps while nothing happens";
+    "Listens on 127.0.0.1, or another address, and serves WebSocket clients; it sleeps while \
+     nothing happens";
 
-const SERVE_EXAMPLE: &str =
-    "Example, on a port that the system chooses:\n\n  relay serve --port 0\n\nA client connects to ws://127.0.0.1:PORT/rooms/ROOM. Documents end with the program.";
+const SERVE_EXAMPLE: &str = "Example, on a port that the system chooses:\n\n  \
+     relay serve --port 0\n\n\
+     A client connects to ws://127.0.0.1:PORT/rooms/ROOM. Documents end with the program.";
 
 const FOLLOW_ABOUT: &str =
     "Hears the relay's messages, one a line, and tells after each what its client holds";

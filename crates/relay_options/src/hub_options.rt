@@ -90,7 +90,8 @@ fn sessions<'a>(alloc: Global) -> Arg<'a>
 {
     number(alloc, "sessions", 1, MAX_SESSIONS)
         .help(
-            "How many sessions are open at most, 1 to 65536; an idle one takes about 6 KiB with its connection",
+            "How many sessions are open at most, 1 to 65536; an idle one takes about 6 KiB with \
+             its connection",
         )
         .default_value(SESSIONS)
 }

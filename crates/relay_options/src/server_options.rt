@@ -79,7 +79,8 @@ fn listen<'a>(alloc: Global) -> Arg<'a>
         .value_name("ADDRESS")
         .action(ArgAction::Set)
         .help(
-            "The IPv4 or IPv6 address for clients; on another one than a loopback address, whoever reaches it can enter",
+            "The IPv4 or IPv6 address for clients; on another one than a loopback address, \
+             whoever reaches it can enter",
         )
         .default_value(LISTEN)
 }
@@ -96,7 +97,8 @@ fn admin<'a>(alloc: Global) -> Arg<'a>
     ensures { rule_of result ≡ admin_option }
 {
     number(alloc, "admin", 1, MAX_PORT).help(
-        "The port for an operator on this machine, 1 to 65535: health, metrics, rooms, and the stop; none without it",
+        "The port for an operator on this machine, 1 to 65535: health, metrics, rooms, and the \
+         stop; none without it",
     )
 }
 
@@ -105,7 +107,8 @@ fn rounds<'a>(alloc: Global) -> Arg<'a>
 {
     number(alloc, "turns", 1, MAX_ROUNDS)
         .help(
-            "How many rounds of the event loop to make, 1 to 1000000000000; a round sleeps while nothing happens",
+            "How many rounds of the event loop to make, 1 to 1000000000000; a round sleeps while \
+             nothing happens",
         )
         .default_value(ROUNDS)
 }
@@ -125,7 +128,8 @@ fn forget_rooms<'a>(alloc: Global) -> Arg<'a>
     Arg::new(alloc, "forget-rooms")
         .long("forget-rooms")
         .help(
-            "Forgets the room that has been empty for the longest time, with its document, when --rooms are taken and another is asked for",
+            "Forgets the room that has been empty for the longest time, with its document, when \
+             --rooms are taken and another is asked for",
         )
         .action(ArgAction::SetTrue)
 }
@@ -136,7 +140,8 @@ fn closed<'a>(alloc: Global) -> Arg<'a>
     Arg::new(alloc, "closed")
         .long("closed")
         .help(
-            "Answers clients 503 until an operator says POST /open at the port of --admin: time to put documents back",
+            "Answers clients 503 until an operator says POST /open at the port of --admin: time \
+             to put documents back",
         )
         .action(ArgAction::SetTrue)
 }
@@ -146,7 +151,8 @@ fn output<'a>(alloc: Global) -> Arg<'a>
 {
     number(alloc, "max-output-mib", 1, MAX_OUTPUT_MIB)
         .help(
-            "How many MiB of output are held for all sessions together, 1 to 1048576; beyond, those that hold the most and take nothing are ended",
+            "How many MiB of output are held for all sessions together, 1 to 1048576; beyond, \
+             those that hold the most and take nothing are ended",
         )
         .default_value(OUTPUT_MIB)
 }

@@ -1,6 +1,7 @@
 -- The definitions computed for small outboxes.
 use Rattle.std.specs.Prelude.{◌≡◌, true, false, [], ◌∷◌, refl}
-use Rattle.relay_outbox.specs.Outbox.{contents, reply, patch, snapshot, nothing, empty, with_reply, with_patch, folded, cleared, front_of, without_front}
+use Rattle.relay_outbox.specs.Outbox.{contents, reply, patch, snapshot, nothing, empty, with_reply}
+use Rattle.relay_outbox.specs.Outbox.{with_patch, folded, cleared, front_of, without_front}
 
 module _ {R P : Type 0} (r s : R) (p q : P) where
   -- with a limit of two, two patches wait, the third folds them, and the fourth changes nothing

@@ -49,8 +49,10 @@ impl<R, P> Model for Outbox<R, P> {
 }
 
 impl<R: Drop, P: Drop> Outbox<R, P> {
-    ghost use Rattle.std.specs.Prelude.{◌≡◌, ◌<◌, ◌≤◌, ◌↔◌, ◌⊎◌, IfOk, IfErr, OnOk, OnErr, IsErr, IsErrOf, length};
-    ghost use Rattle.relay_outbox.specs.Outbox.{IsOutbox, empty, with_reply, with_patch, folded, cleared, front_of, without_front};
+    ghost use Rattle.std.specs.Prelude.{◌≡◌, ◌<◌, ◌≤◌, ◌↔◌, ◌⊎◌, IfOk, IfErr, OnOk, OnErr, IsErr};
+    ghost use Rattle.std.specs.Prelude.{IsErrOf, length};
+    ghost use Rattle.relay_outbox.specs.Outbox.{IsOutbox, empty, with_reply, with_patch, folded};
+    ghost use Rattle.relay_outbox.specs.Outbox.{cleared, front_of, without_front};
     ghost use Rattle.relay_outbox.specs.Front.{shown};
 
     /// Creates an empty outbox in which at most `max_waiting_patches` patches may wait. Allocates

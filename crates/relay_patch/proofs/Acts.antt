@@ -1,5 +1,6 @@
 -- Acts at a path whose last token is split off.
-use Rattle.std.proofs.Common.{◌≡◌, ℕ, [], ◌∷◌, ◌++◌, Option, Some, None, Ok, Err, Result, IsOk, refl, sym, ap, ◌∙◌, ok_or}
+use Rattle.std.proofs.Common.{◌≡◌, ℕ, [], ◌∷◌, ◌++◌, Option, Some, None, Ok, Err, Result, IsOk}
+use Rattle.std.proofs.Common.{refl, sym, ap, ◌∙◌, ok_or}
 use Rattle.relay_tree.specs.Document.{Document, list, object, Items}
 use Rattle.relay_tree.specs.Part.{item_at, member_at}
 use Rattle.relay_pointer.specs.Index.{Token, index_of}

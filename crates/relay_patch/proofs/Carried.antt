@@ -1,5 +1,7 @@
 -- The document that results from making a change.
-use Rattle.std.proofs.Common.{◌≡◌, [], ◌∷◌, Bool, true, false, not, ◌&&◌, Option, Some, None, if◌then◌else◌, Result, Ok, IsOk, refl, sym, ap, subst, ◌∙◌, option_and_then}
+use Rattle.std.proofs.Common.{◌≡◌, [], ◌∷◌, Bool, true, false, not, ◌&&◌, Option, Some, None}
+use Rattle.std.proofs.Common.{if◌then◌else◌, Result, Ok, IsOk, refl, sym, ap, subst, ◌∙◌}
+use Rattle.std.proofs.Common.{option_and_then}
 use Rattle.std.specs.Result.{result_ok}
 use Rattle.relay_tree.specs.Document.{Document, list, object}
 use Rattle.relay_pointer.specs.Index.{Token, index_of}
@@ -7,7 +9,8 @@ use Rattle.relay_pointer.specs.Path.{Path, at}
 use Rattle.relay_patch.specs.Walk.{Cause, then_do}
 use Rattle.relay_patch.specs.Place.{Place, beside, in_one_list}
 use Rattle.relay_patch.specs.Patch.{Act, below, at_path, insert_child, drop_child, added, replaced}
-use Rattle.relay_patch.specs.Change.{Change, Makes, Moves, in_list, in_object, placed, dropped, inserted, inserted_at}
+use Rattle.relay_patch.specs.Change.{Change, Makes, Moves, in_list, in_object, placed, dropped}
+use Rattle.relay_patch.specs.Change.{inserted, inserted_at}
 use Rattle.relay_patch.specs.declared.change.Change.TheVariants as change
 use Rattle.relay_patch.specs.Measure.{displaced, gone, is_transfer}
 use Rattle.relay_tree.proofs.Outcomes.{is_ok_then, some_ok}

@@ -1,5 +1,6 @@
 -- A value is as deep in a document as its path is long.
-use Rattle.std.proofs.Common.{◌≡◌, ℕ, suc, ◌+◌, ◌≤◌, [], ◌∷◌, length, Option, Some, None, Ok, ap, arith}
+use Rattle.std.proofs.Common.{◌≡◌, ℕ, suc, ◌+◌, ◌≤◌, [], ◌∷◌, length, Option, Some, None, Ok, ap}
+use Rattle.std.proofs.Common.{arith}
 use Rattle.relay_tree.specs.Document.{Document, list, object, Items, depth, items_depth}
 use Rattle.relay_pointer.specs.Index.{Token, index_of}
 use Rattle.relay_pointer.specs.Path.{Path}

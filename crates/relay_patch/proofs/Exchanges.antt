@@ -1,5 +1,6 @@
 -- The effect of replacing a part, and an act at a path as a replacement of the container.
-use Rattle.std.proofs.Common.{◌≡◌, [], ◌∷◌, ◌++◌, Option, Some, Result, Ok, Err, IsOk, refl, sym, ap, ◌∙◌, IfSome}
+use Rattle.std.proofs.Common.{◌≡◌, [], ◌∷◌, ◌++◌, Option, Some, Result, Ok, Err, IsOk, refl, sym}
+use Rattle.std.proofs.Common.{ap, ◌∙◌, IfSome}
 use Rattle.relay_tree.specs.Document.{Document}
 use Rattle.relay_pointer.specs.Index.{Token}
 use Rattle.relay_pointer.specs.Path.{Path, with_child, at, put}

@@ -1,6 +1,8 @@
 -- The paths and values of a change occur in the document before or after it, so they are within the
 -- depth of these.
-use Rattle.std.proofs.Common.{◌≡◌, ℕ, suc, ◌-◌, ◌^◌, ◌<◌, ◌≤◌, min, List, [], ◌∷◌, ◌++◌, Bool, true, false, Option, Some, None, ok_or, Ok, Err, refl, sym, ap, subst, ◌∙◌, nat_lt, if◌then◌else◌, arith}
+use Rattle.std.proofs.Common.{◌≡◌, ℕ, suc, ◌-◌, ◌^◌, ◌<◌, ◌≤◌, min, List, [], ◌∷◌, ◌++◌, Bool, true}
+use Rattle.std.proofs.Common.{false, Option, Some, None, ok_or, Ok, Err, refl, sym, ap, subst, ◌∙◌}
+use Rattle.std.proofs.Common.{nat_lt, if◌then◌else◌, arith}
 use Rattle.std.specs.Bool.{⊤}
 use Rattle.std.specs.List.{AllByRecursion}
 use Rattle.std.specs.Result.{result_ok}
@@ -13,9 +15,12 @@ use Rattle.relay_pointer.specs.Path.{Path, at, same_path}
 use Rattle.relay_patch.specs.declared.change.Change.TheVariants as change
 use Rattle.relay_patch.specs.Walk.{PastEnd, TooDeep, TooHeavy, step, walk}
 use Rattle.relay_patch.specs.Place.{Place, parent, last, place_of}
-use Rattle.relay_patch.specs.Patch.{Bounds, Op, Move, Copy, at_path, insert_child, insert_element, drop_child, exceeds, within}
+use Rattle.relay_patch.specs.Patch.{Bounds, Op, Move, Copy, at_path, insert_child, insert_element}
+use Rattle.relay_patch.specs.Patch.{drop_child, exceeds, within}
 use Rattle.relay_patch.specs.After.{spent_after, performed, after_from}
-use Rattle.relay_patch.specs.Change.{Change, Makes, Leads, in_list, in_object, placed, inserted, inserted_at, moved_changes, copied_changes, changes_of, all_changes}
+use Rattle.relay_patch.specs.Change.{Change, Makes, Leads, in_list, in_object, placed, inserted}
+use Rattle.relay_patch.specs.Change.{inserted_at, moved_changes, copied_changes, changes_of}
+use Rattle.relay_patch.specs.Change.{all_changes}
 use Rattle.relay_patch.specs.Sizes.{ChangeFits}
 use Rattle.relay_patch.proofs.Refusals.{then_ok, then_itself, ok_or_some, not_refused}
 use Rattle.relay_patch.proofs.Parts.{at_index, place_in_at_index}

@@ -1,5 +1,7 @@
 -- The changes of an accepted operation lead from the document before it to the one after it.
-use Rattle.std.proofs.Common.{◌≡◌, ℕ, suc, List, [], ◌∷◌, ◌++◌, Bool, true, false, Option, Some, None, Ok, Err, refl, sym, ap, subst, ◌∙◌, bytes_eq, if◌then◌else◌, is_some}
+use Rattle.std.proofs.Common.{◌≡◌, ℕ, suc, List, [], ◌∷◌, ◌++◌, Bool, true, false, Option, Some}
+use Rattle.std.proofs.Common.{None, Ok, Err, refl, sym, ap, subst, ◌∙◌, bytes_eq, if◌then◌else◌}
+use Rattle.std.proofs.Common.{is_some}
 use Rattle.std.specs.Result.{result_ok}
 use Rattle.relay_patch.specs.declared.change.Change.TheVariants as change
 use Rattle.relay_tree.specs.Document.{Document, list, object, Items, Members}
@@ -9,8 +11,12 @@ use Rattle.relay_pointer.specs.Index.{Token, index_of}
 use Rattle.relay_pointer.specs.Path.{Path, at, is_proper_prefix, same_path}
 use Rattle.relay_patch.specs.Walk.{Missing, IntoItself, TestFailed, step, walk, dash}
 use Rattle.relay_patch.specs.Place.{Place, parent, last, canonical, place_within, place_of}
-use Rattle.relay_patch.specs.Patch.{Bounds, Act, below, at_path, place_in, insert_child, insert_element, drop_child, drop_element, set_child, added, effect, Op, Add, Remove, Replace, Move, Copy, Test}
-use Rattle.relay_patch.specs.Change.{Change, Makes, Moves, Leads, in_list, in_object, placed, dropped, inserted, inserted_at, added_change, removed_change, changes_of, all_changes}
+use Rattle.relay_patch.specs.Patch.{Bounds, Act, below, at_path, place_in, insert_child}
+use Rattle.relay_patch.specs.Patch.{insert_element, drop_child, drop_element, set_child, added}
+use Rattle.relay_patch.specs.Patch.{effect, Op, Add, Remove, Replace, Move, Copy, Test}
+use Rattle.relay_patch.specs.Change.{Change, Makes, Moves, Leads, in_list, in_object, placed}
+use Rattle.relay_patch.specs.Change.{dropped, inserted, inserted_at, added_change, removed_change}
+use Rattle.relay_patch.specs.Change.{changes_of, all_changes}
 use Rattle.relay_patch.specs.After.{performed, spent_after, after_from, IsLed}
 use Rattle.relay_patch.proofs.Refusals.{then_ok, then_itself, ok_or_found, not_refused}
 use Rattle.relay_patch.proofs.Passed.{went_on, performed_is}

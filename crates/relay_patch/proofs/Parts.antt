@@ -1,5 +1,6 @@
 -- The parts of a document after one of them was replaced, and tokens that are an index.
-use Rattle.std.proofs.Common.{◌≡◌, ◌≢◌, ℕ, Bool, true, false, Option, Some, None, Ok, refl, sym, subst, ◌∙◌, bytes_eq, true≢false}
+use Rattle.std.proofs.Common.{◌≡◌, ◌≢◌, ℕ, Bool, true, false, Option, Some, None, Ok, refl, sym}
+use Rattle.std.proofs.Common.{subst, ◌∙◌, bytes_eq, true≢false}
 use Rattle.relay_tree.specs.Document.{Document, list, object, Items}
 use Rattle.relay_pointer.specs.Index.{Token, index_of}
 use Rattle.relay_pointer.specs.Path.{put_element, with_child}

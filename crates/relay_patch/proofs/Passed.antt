@@ -1,5 +1,6 @@
 -- What is known of an operation that passes.
-use Rattle.std.proofs.Common.{◌≡◌, ℕ, Bool, true, false, Result, Ok, Err, refl, ap, subst, ◌∙◌, is_some, if◌then◌else◌}
+use Rattle.std.proofs.Common.{◌≡◌, ℕ, Bool, true, false, Result, Ok, Err, refl, ap, subst, ◌∙◌}
+use Rattle.std.proofs.Common.{is_some, if◌then◌else◌}
 use Rattle.relay_tree.specs.Document.{Document, depth, weight}
 use Rattle.relay_tree.specs.Budget.{paid}
 use Rattle.relay_patch.specs.Walk.{Cause, TooDeep, TooHeavy}

@@ -1,18 +1,23 @@
 -- A fault names an operation of the patch, and a patch that was read is within its limit of
 -- operations.
-use Rattle.std.proofs.Common.{◌≡◌, ℕ, suc, ◌+◌, ◌<◌, ◌≤◌, List, [], ◌∷◌, length, Bool, true, false, Option, Some, None, Result, Ok, Err, nat_le, if◌then◌else◌, refl, subst, arith, IfOk, IfErr, codes}
+use Rattle.std.proofs.Common.{◌≡◌, ℕ, suc, ◌+◌, ◌<◌, ◌≤◌, List, [], ◌∷◌, length, Bool, true, false}
+use Rattle.std.proofs.Common.{Option, Some, None, Result, Ok, Err, nat_le, if◌then◌else◌, refl}
+use Rattle.std.proofs.Common.{subst, arith, IfOk, IfErr, codes}
 use Rattle.relay_tree.specs.Document.{Document, list}
 use Rattle.relay_tree.specs.Part.{object_member, text_in}
 use Rattle.relay_pointer.specs.Path.{Path}
 use Rattle.relay_pointer.specs.Spelling.{path_of_text}
-use Rattle.relay_patch.specs.Form.{with_part, and_then, kind_of, path_within, path_in, valued, sourced, op_of_kind, op_at, patch_of}
+use Rattle.relay_patch.specs.Form.{with_part, and_then, kind_of, path_within, path_in, valued}
+use Rattle.relay_patch.specs.Form.{sourced, op_of_kind, op_at, patch_of}
 use Rattle.relay_patch.specs.Patch.{Op, Bounds}
-use Rattle.relay_patch.specs.After.{ApplyFault, spent_after, performed, refused_at, go_on, after_from, after}
+use Rattle.relay_patch.specs.After.{ApplyFault, spent_after, performed, refused_at, go_on}
+use Rattle.relay_patch.specs.After.{after_from, after}
 use Rattle.relay_patch.specs.Walk.{Cause}
 use Rattle.relay_patch.specs.declared.form.kind.Kind.{Kind}
 use Rattle.relay_patch.specs.declared.form.kind.Kind.TheVariants as kind
 use Rattle.relay_patch.specs.declared.limits.PatchFault.{PatchFault}
-use Rattle.relay_patch.specs.declared.limits.PatchFault.TheVariants.{TooManyOps, Shape, UnknownOp, Pointer}
+use Rattle.relay_patch.specs.declared.limits.PatchFault.TheVariants.{TooManyOps, Shape, UnknownOp}
+use Rattle.relay_patch.specs.declared.limits.PatchFault.TheVariants.{Pointer}
 use Rattle.relay_tree.proofs.Outcomes.{if_err}
 use Rattle.relay_tree.proofs.Each.{IsBelow, few-length, few-place}
 

@@ -1,5 +1,6 @@
 -- Steps that may be refused.
-use Rattle.std.proofs.Common.{◌≡◌, ◌≢◌, Bool, true, false, Option, Some, None, Bor, Result, Ok, Err, IsOk, OnOk, IfErr, refl, ok_or, if◌then◌else◌, IfOk, option_copied}
+use Rattle.std.proofs.Common.{◌≡◌, ◌≢◌, Bool, true, false, Option, Some, None, Bor, Result, Ok, Err}
+use Rattle.std.proofs.Common.{IsOk, OnOk, IfErr, refl, ok_or, if◌then◌else◌, IfOk, option_copied}
 use Rattle.std.specs.Result.{result_ok}
 use Rattle.relay_tree.specs.Document.{Document}
 use Rattle.relay_patch.specs.Walk.{Cause, NoMemory, then_do, Refuses}

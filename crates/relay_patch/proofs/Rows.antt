@@ -1,10 +1,12 @@
 -- The definitions, computed on small documents.
 use Rattle.std.proofs.Common.{◌≡◌, ℕ, ◌-◌, ◌^◌, List, [], ◌∷◌, pos, Ok, Err, refl, codes}
 use Rattle.relay_tree.specs.declared.budget.Budget.TheVariants.{Left}
-use Rattle.relay_tree.specs.Document.{Document, null, whole, text, list, object, Items, no_items, item, no_members, member}
+use Rattle.relay_tree.specs.Document.{Document, null, whole, text, list, object, Items, no_items}
+use Rattle.relay_tree.specs.Document.{item, no_members, member}
 use Rattle.relay_pointer.specs.Index.{index_of, index_text}
 use Rattle.relay_patch.specs.declared.change.Change.TheVariants as change
-use Rattle.relay_patch.specs.Walk.{Missing, NotIndex, PastEnd, NoContainer, Root, IntoItself, TestFailed, TooHeavy}
+use Rattle.relay_patch.specs.Walk.{Missing, NotIndex, PastEnd, NoContainer, Root, IntoItself}
+use Rattle.relay_patch.specs.Walk.{TestFailed, TooHeavy}
 use Rattle.relay_patch.specs.Patch.{Bounds, Add, Remove, Replace, Move, Test, effect, free}
 use Rattle.relay_patch.specs.After.{after}
 use Rattle.relay_patch.specs.Change.{changes_of}

@@ -1,5 +1,6 @@
 -- A document after a patch (RFC 6902, section 5): its operations in order, each within the bounds.
-use Rattle.std.specs.Prelude.{ℕ, suc, ◌+◌, ◌≡◌, List, [], ◌∷◌, take, slice_get, Some, Result, Ok, Err, IsOk, is_some, if◌then◌else◌}
+use Rattle.std.specs.Prelude.{ℕ, suc, ◌+◌, ◌≡◌, List, [], ◌∷◌, take, slice_get, Some, Result, Ok}
+use Rattle.std.specs.Prelude.{Err, IsOk, is_some, if◌then◌else◌}
 use Rattle.relay_tree.specs.Document.{Document}
 use Rattle.relay_tree.specs.Budget.{paid}
 use Rattle.relay_patch.specs.Walk.{Cause, TooHeavy, then_do}

@@ -1,5 +1,6 @@
 -- The changes that accepted operations make, and their places.
-use Rattle.std.specs.Prelude.{ℕ, List, [], ◌∷◌, ◌++◌, Bool, true, false, Option, Some, None, Result, Ok, Err, ◌≡◌, if◌then◌else◌, is_some}
+use Rattle.std.specs.Prelude.{ℕ, List, [], ◌∷◌, ◌++◌, Bool, true, false, Option, Some, None, Result}
+use Rattle.std.specs.Prelude.{Ok, Err, ◌≡◌, if◌then◌else◌, is_some}
 use Rattle.std.specs.Result.{result_ok}
 use Rattle.relay_tree.specs.Document.{Document, list, object}
 use Rattle.relay_pointer.specs.Index.{Token, index_of}

@@ -1,7 +1,9 @@
 -- How a document is read as a patch or refused with its first fault, and how a patch is written
 -- (RFC 6902, sections 3 and 4).
-use Rattle.std.specs.Prelude.{ℕ, List, [], ◌∷◌, length, codes, bytes_eq, Option, Some, None, Result, Ok, Err, nat_le, nat_lt, if◌then◌else◌}
-use Rattle.relay_tree.specs.Document.{Document, text, list, object, Items, no_items, item, Members, no_members, member}
+use Rattle.std.specs.Prelude.{ℕ, List, [], ◌∷◌, length, codes, bytes_eq, Option, Some, None, Result}
+use Rattle.std.specs.Prelude.{Ok, Err, nat_le, nat_lt, if◌then◌else◌}
+use Rattle.relay_tree.specs.Document.{Document, text, list, object, Items, no_items, item, Members}
+use Rattle.relay_tree.specs.Document.{no_members, member}
 use Rattle.relay_tree.specs.Each.{each_from}
 use Rattle.relay_tree.specs.Part.{items_length, object_member, text_in}
 use Rattle.relay_pointer.specs.Path.{Path}
@@ -11,7 +13,8 @@ use Rattle.relay_patch.specs.declared.op.Op.TheVariants as op
 use Rattle.relay_patch.specs.declared.form.kind.Kind.{Kind}
 use Rattle.relay_patch.specs.declared.form.kind.Kind.TheVariants as kind
 use Rattle.relay_patch.specs.declared.limits.PatchFault.{PatchFault}
-use Rattle.relay_patch.specs.declared.limits.PatchFault.TheVariants.{TooManyOps, Shape, UnknownOp, Pointer}
+use Rattle.relay_patch.specs.declared.limits.PatchFault.TheVariants.{TooManyOps, Shape, UnknownOp}
+use Rattle.relay_patch.specs.declared.limits.PatchFault.TheVariants.{Pointer}
 
 -- Reading.
 

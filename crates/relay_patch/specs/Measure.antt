@@ -1,5 +1,6 @@
 -- What a change adds to the depth and the weight of a document, and what it removes from them.
-use Rattle.std.specs.Prelude.{ℕ, ◌+◌, ◌-◌, ◌^◌, ◌<◌, ◌≡◌, [], ◌∷◌, Bool, false, not, Option, Some, None, option_and_then, Result, Ok, Err, length, if◌then◌else◌}
+use Rattle.std.specs.Prelude.{ℕ, ◌+◌, ◌-◌, ◌^◌, ◌<◌, ◌≡◌, [], ◌∷◌, Bool, false, not, Option, Some}
+use Rattle.std.specs.Prelude.{None, option_and_then, Result, Ok, Err, length, if◌then◌else◌}
 use Rattle.std.specs.Bool.{⊤}
 use Rattle.std.specs.Result.{result_ok}
 use Rattle.relay_tree.specs.Document.{Document, depth, weight}

@@ -1,12 +1,15 @@
 -- JSON Patch (RFC 6902): what each operation makes of a document, and the bounds on it.
-use Rattle.std.specs.Prelude.{ℕ, ◌-◌, ◌^◌, [], ◌∷◌, Bool, Option, Some, None, ok_or, Result, Ok, Err, bytes_eq, if◌then◌else◌, nat_lt}
+use Rattle.std.specs.Prelude.{ℕ, ◌-◌, ◌^◌, [], ◌∷◌, Bool, Option, Some, None, ok_or, Result, Ok}
+use Rattle.std.specs.Prelude.{Err, bytes_eq, if◌then◌else◌, nat_lt}
 use Rattle.relay_tree.specs.Document.{Document, list, object, Items, depth, weight, saturated}
 use Rattle.relay_tree.specs.Part.{items_length, insert_item, drop_item, put_member, drop_member}
 use Rattle.relay_tree.specs.declared.budget.Budget.TheVariants.{Unbounded}
 use Rattle.relay_pointer.specs.Index.{Token, index_of}
 use Rattle.relay_pointer.specs.Path.{Path, with_child, is_proper_prefix, same_path}
 use Rattle.relay_tree.specs.Same.{same}
-use Rattle.relay_patch.specs.Walk.{Cause, Missing, NotIndex, PastEnd, NoContainer, Root, IntoItself, TestFailed, TooDeep, TooHeavy, then_do, dash, no_element, step, walk}
+use Rattle.relay_patch.specs.Walk.{Cause, Missing, NotIndex, PastEnd, NoContainer, Root, IntoItself}
+use Rattle.relay_patch.specs.Walk.{TestFailed, TooDeep, TooHeavy, then_do, dash, no_element, step}
+use Rattle.relay_patch.specs.Walk.{walk}
 use Rattle.relay_patch.specs.Place.{place_of}
 pub use Rattle.relay_patch.specs.declared.op.Op.{Op}
 pub use Rattle.relay_patch.specs.declared.op.Op.TheVariants.{Add, Remove, Replace, Move, Copy, Test}

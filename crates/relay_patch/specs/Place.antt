@@ -1,5 +1,6 @@
 -- Where an operation inserts or removes.
-use Rattle.std.specs.Prelude.{[], ◌∷◌, ◌++◌, Bool, true, false, ◌&&◌, Option, Some, bytes_eq, if◌then◌else◌}
+use Rattle.std.specs.Prelude.{[], ◌∷◌, ◌++◌, Bool, true, false, ◌&&◌, Option, Some, bytes_eq}
+use Rattle.std.specs.Prelude.{if◌then◌else◌}
 use Rattle.relay_tree.specs.Document.{Document, list, Items}
 use Rattle.relay_tree.specs.Part.{items_length}
 use Rattle.relay_pointer.specs.Index.{Token, index_text}

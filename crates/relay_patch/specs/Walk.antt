@@ -1,11 +1,15 @@
 -- A walk along a path that gives the cause if it ends early (RFC 6901, section 7).
-use Rattle.std.specs.Prelude.{ℕ, [], ◌∷◌, ◌≡◌, ◌≢◌, Bool, Option, Some, None, ok_or, Result, Ok, Err, IsOk, bytes_eq, if◌then◌else◌}
+use Rattle.std.specs.Prelude.{ℕ, [], ◌∷◌, ◌≡◌, ◌≢◌, Bool, Option, Some, None, ok_or, Result, Ok}
+use Rattle.std.specs.Prelude.{Err, IsOk, bytes_eq, if◌then◌else◌}
 use Rattle.relay_tree.specs.Document.{Document, list, object, Items}
 use Rattle.relay_tree.specs.Part.{item_at, member_at}
 use Rattle.relay_pointer.specs.Index.{Token, index_of}
 use Rattle.relay_pointer.specs.Path.{Path}
 pub use Rattle.relay_patch.specs.declared.fault.Cause.{Cause}
-pub use Rattle.relay_patch.specs.declared.fault.Cause.TheVariants.{Missing, NotIndex, PastEnd, NoContainer, Root, IntoItself, TestFailed, TooDeep, TooHeavy, NoMemory}
+pub use Rattle.relay_patch.specs.declared.fault.Cause.TheVariants.{Missing, NotIndex, PastEnd}
+pub use Rattle.relay_patch.specs.declared.fault.Cause.TheVariants.{NoContainer, Root, IntoItself}
+pub use Rattle.relay_patch.specs.declared.fault.Cause.TheVariants.{TestFailed, TooDeep, TooHeavy}
+pub use Rattle.relay_patch.specs.declared.fault.Cause.TheVariants.{NoMemory}
 
 -- the continuation of a step that may be refused
 abbrev pub then_do : {A B : Type 0} → Result A Cause → (A → Result B Cause) → Result B Cause

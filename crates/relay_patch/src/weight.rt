@@ -3,7 +3,8 @@
 ghost use Rattle.std.specs.Prelude.{◌≡◌, option_copied};
 ghost use Rattle.relay_tree.specs.Budget.{paid};
 ghost use Rattle.relay_patch.specs.Measure.{part_weight};
-ghost use Rattle.relay_patch.specs.Weight.{change_weight, changes_weight, paths_weight, op_weight, ops_weight, carried};
+ghost use Rattle.relay_patch.specs.Weight.{change_weight, changes_weight, paths_weight, op_weight};
+ghost use Rattle.relay_patch.specs.Weight.{ops_weight, carried};
 
 use crate::change::Change;
 use crate::op::Op;

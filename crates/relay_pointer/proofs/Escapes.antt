@@ -1,15 +1,20 @@
 -- The escapes of a text, by the text before its first `~` and after it.
-use Rattle.std.proofs.Common.{◌≡◌, ◌≢◌, ℕ, suc, ◌+◌, ◌<◌, List, [], ◌∷◌, ◌++◌, length, get_or, drop, append-nil, Bool, true, false, ◌&&◌, ◌==◌, Option, Some, None, is_some, IsSome, IsNone, option_map, IsSomeAnd, count_by, cond, append_assoc, refl, sym, ap, subst, ◌∙◌, arith}
+use Rattle.std.proofs.Common.{◌≡◌, ◌≢◌, ℕ, suc, ◌+◌, ◌<◌, List, [], ◌∷◌, ◌++◌, length, get_or, drop}
+use Rattle.std.proofs.Common.{append-nil, Bool, true, false, ◌&&◌, ◌==◌, Option, Some, None}
+use Rattle.std.proofs.Common.{is_some, IsSome, IsNone, option_map, IsSomeAnd, count_by, cond}
+use Rattle.std.proofs.Common.{append_assoc, refl, sym, ap, subst, ◌∙◌, arith}
 use Rattle.std.specs.List.{slice_split}
 use Rattle.std.proofs.lemmas.Bool.Decides.{nat_tests}
 use Rattle.std.proofs.lemmas.List.Splits.{length-slice_split}
 use Rattle.std.proofs.lemmas.List.{at_drop_more, at_drop_all}
 use Rattle.std.proofs.lemmas.List.Sums.{sum_by-cons}
 use Rattle.relay_pointer.proofs.Spellings.{begins}
-use Rattle.relay_pointer.proofs.Parts.{Kind, tilde, slash, letter, kind, Behind, zero_digit, one_digit, stroke, other, behind_kind, Parts, parts}
+use Rattle.relay_pointer.proofs.Parts.{Kind, tilde, slash, letter, kind, Behind, zero_digit}
+use Rattle.relay_pointer.proofs.Parts.{one_digit, stroke, other, behind_kind, Parts, parts}
 use Rattle.relay_pointer.specs.Index.{Token}
 use Rattle.relay_pointer.specs.Path.{Path}
-use Rattle.relay_pointer.specs.Spelling.{unescaped, after_tilde, begun, tokens_of, path_of_text, begins_escape, is_escaped}
+use Rattle.relay_pointer.specs.Spelling.{unescaped, after_tilde, begun, tokens_of, path_of_text}
+use Rattle.relay_pointer.specs.Spelling.{begins_escape, is_escaped}
 
 abbrev pub NoTilde : List ℕ → Type 0
 NoTilde bs = (i : ℕ) → i < length bs → get_or bs i 0 ≢ 126

@@ -1,10 +1,14 @@
 -- A number has one index that spells it, and its decimal text is that index.
-use Rattle.std.proofs.Common.{◌≡◌, ◌⊎◌, ℕ, zero, suc, ◌+◌, ◌-◌, ◌*◌, ◌/◌, ◌%◌, ◌<◌, ◌≤◌, ◌^◌, List, [], ◌∷◌, ◌++◌, length, Bool, true, false, ◌||◌, ◌==◌, nat_lt, nat_le, Some, None, decimal, refl, sym, ap, subst, ◌∙◌, inl, inr, ⊎_elim, arith, div-add-mod', mod-lt, min, option_map, bytes_eq, slice_get}
+use Rattle.std.proofs.Common.{◌≡◌, ◌⊎◌, ℕ, zero, suc, ◌+◌, ◌-◌, ◌*◌, ◌/◌, ◌%◌, ◌<◌, ◌≤◌, ◌^◌, List}
+use Rattle.std.proofs.Common.{[], ◌∷◌, ◌++◌, length, Bool, true, false, ◌||◌, ◌==◌, nat_lt, nat_le}
+use Rattle.std.proofs.Common.{Some, None, decimal, refl, sym, ap, subst, ◌∙◌, inl, inr, ⊎_elim}
+use Rattle.std.proofs.Common.{arith, div-add-mod', mod-lt, min, option_map, bytes_eq, slice_get}
 use Rattle.std.specs.List.{list_all}
 use Rattle.std.proofs.lemmas.Bool.{cases_lt}
 use Rattle.std.proofs.lemmas.List.Folds.{list_all-append}
 use Rattle.std.proofs.lemmas.Fmt.{decimal_by_steps}
-use Rattle.relay_pointer.specs.Index.{Token, is_digit, is_index, number_onto, index_of, spell, index_text, number_of}
+use Rattle.relay_pointer.specs.Index.{Token, is_digit, is_index, number_onto, index_of, spell}
+use Rattle.relay_pointer.specs.Index.{index_text, number_of}
 use Rattle.relay_tree.specs.Document.{Document}
 use Rattle.std.proofs.lemmas.Bool.Decides.{nat_tests}
 use Rattle.std.proofs.lemmas.Slice.Eq.{bytes_eq-Decides}

@@ -1,5 +1,6 @@
 -- One more digit of a number.
-use Rattle.std.proofs.Common.{◌≡◌, ℕ, zero, suc, ◌+◌, ◌-◌, ◌*◌, ◌<◌, List, [], ◌∷◌, length, take, get_or, refl, arith}
+use Rattle.std.proofs.Common.{◌≡◌, ℕ, zero, suc, ◌+◌, ◌-◌, ◌*◌, ◌<◌, List, [], ◌∷◌, length, take}
+use Rattle.std.proofs.Common.{get_or, refl, arith}
 use Rattle.relay_pointer.specs.Index.{number_onto}
 
 pub number_more : (bytes : List ℕ) (m i : ℕ) → i < length bytes

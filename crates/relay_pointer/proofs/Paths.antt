@@ -1,5 +1,8 @@
 -- The first tokens of a list of texts, and the bytes of a token written one by one.
-use Rattle.std.proofs.Common.{◌≡◌, ◌≢◌, ℕ, zero, suc, ◌+◌, ◌<◌, List, [], ◌∷◌, ◌++◌, length, get_or, take, String, Global, string_bytes, Bool, true, false, ◌==◌, flat_map, append_assoc, append-nil, encode_utf8, encode_utf8_all, refl, sym, ap, ◌∙◌, arith}
+use Rattle.std.proofs.Common.{◌≡◌, ◌≢◌, ℕ, zero, suc, ◌+◌, ◌<◌, List, [], ◌∷◌, ◌++◌, length, get_or}
+use Rattle.std.proofs.Common.{take, String, Global, string_bytes, Bool, true, false, ◌==◌, flat_map}
+use Rattle.std.proofs.Common.{append_assoc, append-nil, encode_utf8, encode_utf8_all, refl, sym, ap}
+use Rattle.std.proofs.Common.{◌∙◌, arith}
 use Rattle.std.proofs.lemmas.Bool.Decides.{nat_tests}
 use Rattle.std.proofs.lemmas.List.Concat.{flat_map-append}
 use Rattle.std.proofs.lemmas.Str.{encodes-append, encode_ascii, inside_one}

@@ -1,5 +1,6 @@
 -- Paths that are the same, and paths that begin with one another.
-use Rattle.std.proofs.Common.{◌≡◌, List, [], ◌∷◌, ◌++◌, Bool, true, false, ◌&&◌, String, Global, string_eq, refl, sym, ap, ◌∙◌, bytes_eq}
+use Rattle.std.proofs.Common.{◌≡◌, List, [], ◌∷◌, ◌++◌, Bool, true, false, ◌&&◌, String, Global}
+use Rattle.std.proofs.Common.{string_eq, refl, sym, ap, ◌∙◌, bytes_eq}
 use Rattle.std.specs.List.{starts_with}
 use Rattle.relay_tree.proofs.Names.{bytes_same, equal_bytes}
 use Rattle.relay_pointer.specs.Index.{Token}

@@ -1,6 +1,7 @@
 -- A value that was put at a path is there; of two values put at one place the last wins; putting
 -- the old value back restores the document.
-use Rattle.std.proofs.Common.{◌≡◌, ℕ, suc, [], ◌∷◌, Option, Some, None, refl, sym, ap, ◌∙◌, max, ◌≤◌, arith}
+use Rattle.std.proofs.Common.{◌≡◌, ℕ, suc, [], ◌∷◌, Option, Some, None, refl, sym, ap, ◌∙◌, max}
+use Rattle.std.proofs.Common.{◌≤◌, arith}
 use Rattle.relay_tree.specs.Document.{Document, list, object, Items, depth, items_depth}
 use Rattle.relay_tree.specs.Part.{item_at, items_length}
 use Rattle.relay_tree.proofs.Elements.{item_at-put_same, put_item-twice, put_item-length}

@@ -1,6 +1,7 @@
 -- The state of a walk along a path at a node d, after i tokens: the final value of the whole
 -- document is a function F of that of d.
-use Rattle.std.proofs.Common.{◌≡◌, ℕ, zero, suc, ◌<◌, ◌≤◌, Some, None, List, [], ◌∷◌, length, get_or, take, drop, refl, sym, ap, ◌∙◌, arith}
+use Rattle.std.proofs.Common.{◌≡◌, ℕ, zero, suc, ◌<◌, ◌≤◌, Some, None, List, [], ◌∷◌, length}
+use Rattle.std.proofs.Common.{get_or, take, drop, refl, sym, ap, ◌∙◌, arith}
 use Rattle.relay_tree.specs.Document.{Document}
 use Rattle.relay_tree.specs.Seen.{document_of}
 use Rattle.relay_tree.specs.declared.tree.Node.{Node}

@@ -1,11 +1,15 @@
 -- A text spells a path exactly if it reads as that path, so it spells no other.
-use Rattle.std.proofs.Common.{◌≡◌, ◌↔◌, ℕ, List, [], ◌∷◌, ◌++◌, Bool, true, false, ◌==◌, Option, Some, None, option_map, flat_map, append_assoc, refl, sym, ap, subst, ◌∙◌, arith}
+use Rattle.std.proofs.Common.{◌≡◌, ◌↔◌, ℕ, List, [], ◌∷◌, ◌++◌, Bool, true, false, ◌==◌, Option}
+use Rattle.std.proofs.Common.{Some, None, option_map, flat_map, append_assoc, refl, sym, ap, subst}
+use Rattle.std.proofs.Common.{◌∙◌, arith}
 use Rattle.std.specs.List.{slice_split}
 use Rattle.std.proofs.lemmas.Bool.Decides.{nat_tests}
 use Rattle.relay_pointer.specs.Index.{Token}
 use Rattle.relay_pointer.specs.Path.{Path}
-use Rattle.relay_pointer.proofs.Parts.{Kind, tilde, slash, letter, kind, Behind, zero_digit, one_digit, stroke, other, behind_kind, Parts, parts}
-use Rattle.relay_pointer.specs.Spelling.{escaped, spelling, Spells, SpellsNone, unescaped, begun, tokens_of, path_of_text}
+use Rattle.relay_pointer.proofs.Parts.{Kind, tilde, slash, letter, kind, Behind, zero_digit}
+use Rattle.relay_pointer.proofs.Parts.{one_digit, stroke, other, behind_kind, Parts, parts}
+use Rattle.relay_pointer.specs.Spelling.{escaped, spelling, Spells, SpellsNone, unescaped, begun}
+use Rattle.relay_pointer.specs.Spelling.{tokens_of, path_of_text}
 
 -- a path that consists of a first token and a rest
 pub record Begins (o : Option Token) (rest : Option Path) (path : Path) : Type 0 where

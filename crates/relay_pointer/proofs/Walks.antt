@@ -1,8 +1,11 @@
 -- One step of a walk, by the kind of the document.
-use Rattle.std.proofs.Common.{◌≡◌, ℕ, ◌-◌, ◌^◌, ◌<◌, ◌≤◌, min, Bool, true, false, Option, Some, None, option_map, option_and_then, is_some, ◌∷◌, refl, sym, ap, ◌∙◌, arith, IfSome, nat_lt}
+use Rattle.std.proofs.Common.{◌≡◌, ℕ, ◌-◌, ◌^◌, ◌<◌, ◌≤◌, min, Bool, true, false, Option, Some}
+use Rattle.std.proofs.Common.{None, option_map, option_and_then, is_some, ◌∷◌, refl, sym, ap, ◌∙◌}
+use Rattle.std.proofs.Common.{arith, IfSome, nat_lt}
 use Rattle.std.proofs.lemmas.Bool.Decides.{nat_tests}
 use Rattle.relay_tree.specs.Document.{Document, list, object, Items}
-use Rattle.relay_tree.specs.Part.{items_length, list_len, item_at, put_item, list_item, object_member, with_item, with_member}
+use Rattle.relay_tree.specs.Part.{items_length, list_len, item_at, put_item, list_item}
+use Rattle.relay_tree.specs.Part.{object_member, with_item, with_member}
 use Rattle.relay_tree.proofs.Elements.{item_at-past, put_item-past, put_item-same}
 use Rattle.relay_tree.proofs.Named.{set_member-same}
 use Rattle.relay_pointer.specs.Index.{Token, index_of, number_of}

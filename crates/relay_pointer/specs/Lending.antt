@@ -7,5 +7,7 @@ use Rattle.relay_tree.specs.declared.tree.Node.{Node}
 use Rattle.relay_pointer.specs.Index.{Token}
 use Rattle.relay_pointer.specs.Path.{with_child}
 
+-- a node ends as its document with what was written as the part that the token names; it is
+-- unchanged if the token names none
 abbrev pub LendsChild : MutBor Node → Token → Option (MutBor Document) → Fml
 LendsChild s t r = LendsPart (λ d. with_child d t) s r

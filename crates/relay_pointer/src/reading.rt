@@ -1,11 +1,16 @@
 //! A reader of pointers (RFC 6901, section 3). A text is checked and its tokens are counted before
 //! the first token is built.
-ghost use Rattle.std.specs.Prelude.{◌≡◌, ◌<◌, ◌≤◌, ◌==◌, Some, None, IfOk, IfErr, IsSome, IsSomeAnd, IfSome, IsNone, is_some, ◌∷◌, length, count_by, string_bytes};
+ghost use Rattle.std.specs.Prelude.{◌≡◌, ◌<◌, ◌≤◌, ◌==◌, Some, None, IfOk, IfErr, IsSome};
+ghost use Rattle.std.specs.Prelude.{IsSomeAnd, IfSome, IsNone, is_some, ◌∷◌, length, count_by};
+ghost use Rattle.std.specs.Prelude.{string_bytes};
 ghost use Rattle.std.specs.List.{slice_split};
 ghost use Rattle.std.specs.Option.{option_map};
 ghost use Rattle.relay_pointer.specs.Path.{path_of};
-ghost use Rattle.relay_pointer.specs.Spelling.{Spells, SpellsNone, path_of_text, is_escaped, begins_escape, tokens_of, unescaped, after_tilde};
-ghost use Rattle.relay_pointer.specs.declared.reading.PointerFault.TheVariants.{BadPointer, TooManyTokens, NoMemory};
+ghost use Rattle.relay_pointer.specs.Spelling.{Spells, SpellsNone, path_of_text, is_escaped};
+ghost use Rattle.relay_pointer.specs.Spelling.{begins_escape, tokens_of, unescaped, after_tilde};
+ghost use Rattle.relay_pointer.specs.declared.reading.PointerFault.TheVariants.{BadPointer};
+ghost use Rattle.relay_pointer.specs.declared.reading.PointerFault.TheVariants.{TooManyTokens};
+ghost use Rattle.relay_pointer.specs.declared.reading.PointerFault.TheVariants.{NoMemory};
 
 use crate::pointer::Pointer;
 use std::alloc::{AllocError, Global};

@@ -1,5 +1,8 @@
 -- The numbers of a request that was read, and of a refusal, are counts.
-use Rattle.std.proofs.Common.{◌≡◌, ℕ, ◌≤◌, pos, List, length, Bool, true, false, Option, Some, None, Result, Ok, Err, is_some, nat_lt, nat_le, bytes_eq, option_map, option_and_then, if◌then◌else◌, refl, subst, arith, IfOk, IfErr, IfSome, MatchResult, codes}
+use Rattle.std.proofs.Common.{◌≡◌, ℕ, ◌≤◌, pos, List, length, Bool, true, false, Option, Some, None}
+use Rattle.std.proofs.Common.{Result, Ok, Err, is_some, nat_lt, nat_le, bytes_eq, option_map}
+use Rattle.std.proofs.Common.{option_and_then, if◌then◌else◌, refl, subst, arith, IfOk, IfErr}
+use Rattle.std.proofs.Common.{IfSome, MatchResult, codes}
 use Rattle.std.proofs.lemmas.Bool.Decides.{nat_tests}
 use Rattle.serde_json.specs.Data.{Data}
 use Rattle.serde_json.specs.Read as json
@@ -31,12 +34,16 @@ use Rattle.relay_view.specs.declared.view.TheConstants.{MAX_SLOTS}
 use Rattle.relay_pointer.specs.declared.reading.TheConstants.{MAX_TOKENS}
 use Rattle.relay_proto.specs.declared.reading.TheConstants.{MAX_REQUEST, MAX_WILL_WEIGHT}
 use Rattle.relay_proto.specs.Optional.{optional_count, optional_count_in}
-use Rattle.relay_proto.specs.Request.{with_part, and_then, refusal, patch_refusal, patch_read, patch_in, view_refusal, view_read, view_in, edit_of, light_will, will_of, resume_of, asked, request_of, request_of_tree, request_of_json, request_of_text}
+use Rattle.relay_proto.specs.Request.{with_part, and_then, refusal, patch_refusal, patch_read}
+use Rattle.relay_proto.specs.Request.{patch_in, view_refusal, view_read, view_in, edit_of}
+use Rattle.relay_proto.specs.Request.{light_will, will_of, resume_of, asked, request_of}
+use Rattle.relay_proto.specs.Request.{request_of_tree, request_of_json, request_of_text}
 use Rattle.relay_proto.specs.Written.{IsCount, IsCountOrNull, HasCounts}
 use Rattle.relay_proto.specs.declared.refusal.Refusal.{Refusal}
 use Rattle.relay_proto.specs.declared.reply.Reply.TheVariants.{Refused}
 use Rattle.relay_proto.specs.declared.request.Request.{Request}
-use Rattle.relay_proto.specs.declared.request.Request.TheVariants.{Edit, Will, Watch, Resume, Unwatch}
+use Rattle.relay_proto.specs.declared.request.Request.TheVariants.{Edit, Will, Watch, Resume}
+use Rattle.relay_proto.specs.declared.request.Request.TheVariants.{Unwatch}
 use Rattle.relay_tree.proofs.Each.{IsBelow, few-length, few-place}
 
 abbrev pub IsShort : View → Type 0

@@ -1,10 +1,12 @@
 -- The document of a message reads as the message if its members have their forms.
-use Rattle.std.proofs.Common.{◌≡◌, ℕ, ◌<◌, ◌^◌, List, length, true, nat_le, Option, Some, None, refl, arith}
+use Rattle.std.proofs.Common.{◌≡◌, ℕ, ◌<◌, ◌^◌, List, length, true, nat_le, Option, Some, None}
+use Rattle.std.proofs.Common.{refl, arith}
 use Rattle.std.proofs.lemmas.Bool.Decides.{nat_tests}
 use Rattle.relay_tree.specs.Count.{count_of, count_most}
 use Rattle.relay_tree.specs.Document.{Document}
 use Rattle.relay_patch.specs.declared.op.Op.{Op}
-use Rattle.relay_proto.specs.Message.{count, count_or_null, reply_document, patch_message, snapshot_message}
+use Rattle.relay_proto.specs.Message.{count, count_or_null, reply_document, patch_message}
+use Rattle.relay_proto.specs.Message.{snapshot_message}
 use Rattle.relay_proto.specs.MessageRead.{nullable_count, message_of}
 use Rattle.relay_proto.specs.Words.{word_text, how_text, word_of_text, how_of_text}
 use Rattle.relay_proto.specs.Written.{IsCount, IsCountOrNull, HasCounts, HasForms}

@@ -1,5 +1,6 @@
 -- A patch round-trips if its paths are short.
-use Rattle.std.proofs.Common.{◌≡◌, ℕ, suc, ◌<◌, ◌^◌, List, [], ◌∷◌, length, true, false, nat_le, nat_lt, Ok, refl, ap, ◌∙◌, arith}
+use Rattle.std.proofs.Common.{◌≡◌, ℕ, suc, ◌<◌, ◌^◌, List, [], ◌∷◌, length, true, false, nat_le}
+use Rattle.std.proofs.Common.{nat_lt, Ok, refl, ap, ◌∙◌, arith}
 use Rattle.std.proofs.lemmas.Bool.Decides.{nat_tests}
 use Rattle.std.specs.List.{AllByRecursion}
 use Rattle.relay_tree.specs.Document.{object}
@@ -8,7 +9,8 @@ use Rattle.relay_tree.specs.Part.{items_length}
 use Rattle.relay_pointer.specs.Path.{Path}
 use Rattle.relay_pointer.specs.Spelling.{spelling}
 use Rattle.relay_pointer.proofs.Spellings.{path_of_text-spelling}
-use Rattle.relay_patch.specs.Form.{path_in, path_within, op_at, op_members, ops_items, patch_of, patch_document}
+use Rattle.relay_patch.specs.Form.{path_in, path_within, op_at, op_members, ops_items, patch_of}
+use Rattle.relay_patch.specs.Form.{patch_document}
 use Rattle.relay_patch.specs.Sizes.{IsShort}
 use Rattle.relay_patch.specs.declared.limits.TheConstants.PatchLimits.{RELAYED}
 use Rattle.relay_patch.specs.declared.op.Op.{Op}

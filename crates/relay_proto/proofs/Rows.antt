@@ -2,7 +2,8 @@
 use Rattle.std.proofs.Common.{◌≡◌, negsuc, [], codes, Some, None, Ok, Err, refl}
 use Rattle.std.specs.Fmt.{digits}
 use Rattle.json.specs.Print.{escape_byte}
-use Rattle.relay_tree.specs.Document.{Document, null, whole, text, list, object, no_items, Members, no_members, member}
+use Rattle.relay_tree.specs.Document.{Document, null, whole, text, list, object, no_items, Members}
+use Rattle.relay_tree.specs.Document.{no_members, member}
 use Rattle.relay_tree.specs.Text.{text_of}
 use Rattle.relay_proto.specs.Message.{count, reply_document}
 use Rattle.relay_proto.specs.MessageRead.{message_of}

@@ -1,10 +1,12 @@
 -- Patch and snapshot messages are writable if the document and the patch keep to the relay's
 -- bounds.
-use Rattle.std.proofs.Common.{◌≡◌, ℕ, suc, ◌+◌, ◌≤◌, List, [], ◌∷◌, true, Option, Some, None, option_and_then, Result, Ok, Err, refl, ap, ◌∙◌, arith}
+use Rattle.std.proofs.Common.{◌≡◌, ℕ, suc, ◌+◌, ◌≤◌, List, [], ◌∷◌, true, Option, Some, None}
+use Rattle.std.proofs.Common.{option_and_then, Result, Ok, Err, refl, ap, ◌∙◌, arith}
 use Rattle.std.specs.List.{AllByRecursion}
 use Rattle.std.specs.Result.{result_ok}
 use Rattle.serde_json.specs.Data as seen
-use Rattle.relay_tree.specs.Document.{Document, list, object, Items, no_items, item, Members, no_members, member, depth, items_depth, members_depth}
+use Rattle.relay_tree.specs.Document.{Document, list, object, Items, no_items, item, Members}
+use Rattle.relay_tree.specs.Document.{no_members, member, depth, items_depth, members_depth}
 use Rattle.relay_tree.specs.Text.{data_of, items_data, members_data}
 use Rattle.relay_pointer.specs.Path.{Path, at}
 use Rattle.relay_patch.specs.Form.{ops_items, op_members}

@@ -1,5 +1,7 @@
 -- The text of a message reads back as the message.
-use Rattle.std.proofs.Common.{◌≡◌, ℕ, List, [], ◌∷◌, ◌++◌, length, length-append, codes, Bool, false, ◌+◌, ◌≤◌, ◌<◌, ◌^◌, true, nat_lt, Option, Some, None, option_map, refl, ap, ◌∙◌, lit≤, arith}
+use Rattle.std.proofs.Common.{◌≡◌, ℕ, List, [], ◌∷◌, ◌++◌, length, length-append, codes, Bool}
+use Rattle.std.proofs.Common.{false, ◌+◌, ◌≤◌, ◌<◌, ◌^◌, true, nat_lt, Option, Some, None}
+use Rattle.std.proofs.Common.{option_map, refl, ap, ◌∙◌, lit≤, arith}
 use Rattle.std.proofs.lemmas.Bool.Decides.{nat_tests}
 use Rattle.json.specs.Lex.{tokens}
 use Rattle.json.specs.Print.{quoted}
@@ -15,7 +17,8 @@ use Rattle.relay_tree.specs.Text.{data_of, items_data, tree_of_text, tokens_of, 
 use Rattle.relay_tree.proofs.Texts.{text_back}
 use Rattle.relay_patch.specs.Form.{patch_document, ops_items, op_members}
 use Rattle.relay_patch.specs.declared.op.Op.{Op}
-use Rattle.relay_proto.specs.Message.{count, count_or_null, reply_document, patch_message, snapshot_message}
+use Rattle.relay_proto.specs.Message.{count, count_or_null, reply_document, patch_message}
+use Rattle.relay_proto.specs.Message.{snapshot_message}
 use Rattle.relay_proto.specs.MessageRead.{with_form, message_of, message_of_text}
 use Rattle.relay_proto.specs.Written.{IsCount, IsCountOrNull, HasCounts, IsWritable}
 use Rattle.relay_proto.specs.declared.message.Message.{Message}

@@ -1,6 +1,7 @@
 -- The document of each message: an object, member by member in the byte order of their names.
 use Rattle.std.specs.Prelude.{ℕ, pos, List, Option, Some, None, codes}
-use Rattle.relay_tree.specs.Document.{Document, null, whole, text, object, Members, no_members, member}
+use Rattle.relay_tree.specs.Document.{Document, null, whole, text, object, Members, no_members}
+use Rattle.relay_tree.specs.Document.{member}
 use Rattle.relay_patch.specs.Form.{patch_document}
 use Rattle.relay_patch.specs.declared.op.Op.{Op}
 use Rattle.relay_proto.specs.declared.message.Message.{Message}

@@ -1,6 +1,7 @@
 -- The message that a text reads as: the members of its kind must have their forms, and other
 -- members are ignored.
-use Rattle.std.specs.Prelude.{ℕ, List, codes, bytes_eq, Bool, true, false, ◌&&◌, nat_le, Option, Some, None, option_map, if◌then◌else◌}
+use Rattle.std.specs.Prelude.{ℕ, List, codes, bytes_eq, Bool, true, false, ◌&&◌, nat_le, Option}
+use Rattle.std.specs.Prelude.{Some, None, option_map, if◌then◌else◌}
 use Rattle.std.specs.Result.{result_ok}
 use Rattle.relay_tree.specs.Document.{Document, null, list, Items, no_items, item}
 use Rattle.relay_tree.specs.Count.{count_of, count_in}
@@ -13,7 +14,8 @@ use Rattle.relay_proto.specs.declared.message.Message.{Message}
 use Rattle.relay_proto.specs.declared.message.Message.TheVariants as message
 use Rattle.relay_proto.specs.declared.reply.ResumeOutcome.{ResumeOutcome}
 use Rattle.relay_proto.specs.declared.reply.Reply.{Reply}
-use Rattle.relay_proto.specs.declared.reply.Reply.TheVariants.{Welcome, Done, Refused, Willing, Watching, Resumed, Unwatched}
+use Rattle.relay_proto.specs.declared.reply.Reply.TheVariants.{Welcome, Done, Refused, Willing}
+use Rattle.relay_proto.specs.declared.reply.Reply.TheVariants.{Watching, Resumed, Unwatched}
 use Rattle.relay_proto.specs.declared.word.Word.{Word}
 use Rattle.relay_proto.specs.Optional.{optional_count_in}
 use Rattle.relay_proto.specs.Words.{word_of_text, how_of_text}

@@ -1,6 +1,7 @@
 -- The request that a text reads as, or its first fault: the checks come in the order of
 -- docs/PROTOCOL.md, "Requests".
-use Rattle.std.specs.Prelude.{◌≡◌, ℕ, List, length, codes, bytes_eq, is_some, nat_lt, Option, Some, None, Result, Ok, Err, if◌then◌else◌}
+use Rattle.std.specs.Prelude.{◌≡◌, ℕ, List, length, codes, bytes_eq, is_some, nat_lt, Option, Some}
+use Rattle.std.specs.Prelude.{None, Result, Ok, Err, if◌then◌else◌}
 use Rattle.serde_json.specs.Data.{Data}
 use Rattle.serde_json.specs.Read as json
 use Rattle.relay_tree.specs.Budget.{paid}
@@ -25,9 +26,11 @@ use Rattle.relay_proto.specs.declared.refusal.Refusal.{Refusal}
 use Rattle.relay_proto.specs.declared.refusal.RequestFault.{RequestFault}
 use Rattle.relay_proto.specs.declared.refusal.RequestFault.TheVariants.{Refused, NoMemory}
 use Rattle.relay_proto.specs.declared.request.Request.{Request}
-use Rattle.relay_proto.specs.declared.request.Request.TheVariants.{Edit, Will, Watch, Resume, Unwatch}
+use Rattle.relay_proto.specs.declared.request.Request.TheVariants.{Edit, Will, Watch, Resume}
+use Rattle.relay_proto.specs.declared.request.Request.TheVariants.{Unwatch}
 use Rattle.relay_proto.specs.declared.word.Word.{Word}
-use Rattle.relay_proto.specs.declared.word.Word.TheVariants.{TooLong, NotJson, Number, Shape, TooMany, UnknownOp, Pointer, TooHeavy}
+use Rattle.relay_proto.specs.declared.word.Word.TheVariants.{TooLong, NotJson, Number, Shape}
+use Rattle.relay_proto.specs.declared.word.Word.TheVariants.{TooMany, UnknownOp, Pointer, TooHeavy}
 
 abbrev pub refusal : Word → Option ℕ → Option ℕ → Refusal
 refusal fault id at = record { fault = fault; id = id; at = at }

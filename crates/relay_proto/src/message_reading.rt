@@ -2,7 +2,9 @@
 //! ignored. A text with an unknown word or without a required member is no message.
 ghost use Rattle.std.specs.Prelude.{◌≡◌, Some, None, IfOk, IfErr};
 ghost use Rattle.std.specs.List.{list_all};
-ghost use Rattle.relay_proto.specs.MessageRead.{message_of_text, message_of, patch_message_in, snapshot_in, reply_in, refused_in, resumed_in, nullable_in, word_in, how_in, is_view, is_slot};
+ghost use Rattle.relay_proto.specs.MessageRead.{message_of_text, message_of, patch_message_in};
+ghost use Rattle.relay_proto.specs.MessageRead.{snapshot_in, reply_in, refused_in, resumed_in};
+ghost use Rattle.relay_proto.specs.MessageRead.{nullable_in, word_in, how_in, is_view, is_slot};
 ghost use Rattle.relay_proto.specs.declared.message_reading.MessageFault.TheVariants.{NotMessage};
 
 use crate::message::Message;

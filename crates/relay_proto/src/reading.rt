@@ -3,7 +3,9 @@
 //! that the request requires or allows, and then its patch or its view.
 ghost use Rattle.std.specs.Prelude.{◌≡◌, ◌≤◌, Ok, Err, IfOk, IfErr, IsErrOf, length};
 ghost use Rattle.relay_proto.specs.declared.reading.TheConstants.{MAX_REQUEST};
-ghost use Rattle.relay_proto.specs.Request.{request_of_text, request_of, edit_of, will_of, light_will, resume_of, patch_in, view_in, refusal, IsRefusedAs};
+ghost use Rattle.relay_proto.specs.Request.{request_of_text, request_of, edit_of, will_of};
+ghost use Rattle.relay_proto.specs.Request.{light_will, resume_of, patch_in, view_in, refusal};
+ghost use Rattle.relay_proto.specs.Request.{IsRefusedAs};
 
 use crate::optional::optional_count_at;
 use crate::refusal::{Refusal, RequestFault};

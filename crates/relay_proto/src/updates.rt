@@ -1,6 +1,7 @@
 //! The texts of patch and snapshot messages, written token by token: compact JSON, member names in
 //! byte order.
-ghost use Rattle.std.specs.Prelude.{◌≡◌, ◌≤◌, ◌+◌, ◌*◌, Some, [], ◌∷◌, ◌++◌, IfOk, string_bytes, codes, decimal, length};
+ghost use Rattle.std.specs.Prelude.{◌≡◌, ◌≤◌, ◌+◌, ◌*◌, Some, [], ◌∷◌, ◌++◌, IfOk, string_bytes};
+ghost use Rattle.std.specs.Prelude.{codes, decimal, length};
 ghost use Rattle.json.specs.Lex.{tokens};
 ghost use Rattle.json.specs.Print.{print};
 ghost use Rattle.json.specs.Token.{begin_object, end_object, key, string, number};

@@ -1,5 +1,6 @@
 -- The result of an edit, from the result of its patch.
-use Rattle.std.proofs.Common.{◌≡◌, ◌<◌, ℕ, Bool, true, false, List, Option, Result, Ok, Err, refl, arith, nat_lt, if◌then◌else◌}
+use Rattle.std.proofs.Common.{◌≡◌, ◌<◌, ℕ, Bool, true, false, List, Option, Result, Ok, Err, refl}
+use Rattle.std.proofs.Common.{arith, nat_lt, if◌then◌else◌}
 use Rattle.std.proofs.lemmas.Bool.Decides.{nat_tests}
 use Rattle.relay_tree.specs.Document.{Document}
 use Rattle.relay_patch.specs.declared.bounds.TheConstants.Bounds.{DOCUMENT}

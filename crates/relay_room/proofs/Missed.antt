@@ -1,5 +1,7 @@
 -- The update that brings the view of an earlier revision to the present one.
-use Rattle.std.proofs.Common.{◌≡◌, Option, Some, None, Ok, option_map, nat_le, ℕ, suc, ◌-◌, List, [], ◌∷◌, ◌++◌, take, Bool, true, false, nat_lt, if◌then◌else◌, refl, arith}
+use Rattle.std.proofs.Common.{◌≡◌, Option, Some, None, Ok, option_map, nat_le, ℕ, suc, ◌-◌, List}
+use Rattle.std.proofs.Common.{[], ◌∷◌, ◌++◌, take, Bool, true, false, nat_lt, if◌then◌else◌, refl}
+use Rattle.std.proofs.Common.{arith}
 use Rattle.std.proofs.lemmas.Bool.Decides.{nat_tests}
 use Rattle.std.specs.List.{AllByRecursion}
 use Rattle.relay_tree.specs.Budget.{paid}
@@ -20,7 +22,8 @@ use Rattle.relay_translate.proofs.Sizes.{fits_with_changes}
 use Rattle.relay_history.specs.History.{in_order, oldest, changes_since}
 use Rattle.relay_history.proofs.Growing.{changes_since-newest}
 use Rattle.relay_room.specs.Room.{State, IsRoom, Fit, revision}
-use Rattle.relay_room.specs.CatchUp.{missed, patch_or_nothing, patch_or_snapshot, caught_up_within, MakesPresent, LeadsOn, IsSent, Fits}
+use Rattle.relay_room.specs.CatchUp.{missed, patch_or_nothing, patch_or_snapshot, caught_up_within}
+use Rattle.relay_room.specs.CatchUp.{MakesPresent, LeadsOn, IsSent, Fits}
 use Rattle.relay_room.specs.declared.catch_up.CatchUp.TheVariants.{Nothing, Snapshot}
 
 nothing_from : (k : ℕ) (now : Document) (pointers : View) → local_from k [] now pointers ≡ []

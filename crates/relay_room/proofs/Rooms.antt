@@ -1,6 +1,7 @@
 -- A new room keeps the invariant, and so does a room after each revision.
 use Rattle.std.specs.List.{AllByRecursion}
-use Rattle.std.proofs.Common.{◌≡◌, ℕ, zero, suc, ◌+◌, ◌-◌, ◌<◌, ◌≤◌, ◌⊎◌, inl, inr, List, [], ◌∷◌, length, take, false, Ok, refl, arith}
+use Rattle.std.proofs.Common.{◌≡◌, ℕ, zero, suc, ◌+◌, ◌-◌, ◌<◌, ◌≤◌, ◌⊎◌, inl, inr, List, [], ◌∷◌}
+use Rattle.std.proofs.Common.{length, take, false, Ok, refl, arith}
 use Rattle.std.proofs.lemmas.Bool.{cases_lt}
 use Rattle.relay_tree.specs.Document.{Document, depth, weight}
 use Rattle.relay_tree.specs.declared.budget.Budget.{Budget}
@@ -15,7 +16,8 @@ use Rattle.relay_history.specs.History.{IsHistory, Reaches, in_order, with_revis
 use Rattle.relay_history.specs.Trimmed.{afforded}
 use Rattle.relay_history.proofs.Afforded.{afforded_front}
 use Rattle.relay_history.proofs.Trims.{trimmed_is_history, trimmed_reaches, trimmed_changes_since}
-use Rattle.relay_history.proofs.Growing.{held-with_revision, changes_since-newest, changes_since-with_revision}
+use Rattle.relay_history.proofs.Growing.{held-with_revision, changes_since-newest}
+use Rattle.relay_history.proofs.Growing.{changes_since-with_revision}
 use Rattle.relay_room.specs.Room.{State, IsRoom, Fit, begun, trimmed}
 
 no_changes : (n : ℕ) → in_order (take n []) ≡ []

@@ -1,6 +1,7 @@
 -- The definitions computed for a room that holds the last two of five revisions, for limits that
 -- are exceeded, and for edits with a base.
-use Rattle.std.specs.Prelude.{◌≡◌, ◌+◌, List, [], ◌∷◌, Some, None, Ok, Err, true, false, refl, codes}
+use Rattle.std.specs.Prelude.{◌≡◌, ◌+◌, List, [], ◌∷◌, Some, None, Ok, Err, true, false, refl}
+use Rattle.std.specs.Prelude.{codes}
 use Rattle.relay_tree.specs.Document.{null, truth, list, object, no_items, item, no_members, member}
 use Rattle.relay_pointer.specs.Index.{index_text}
 use Rattle.relay_pointer.specs.Path.{Path}

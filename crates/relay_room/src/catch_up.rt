@@ -2,7 +2,8 @@
 ghost use Rattle.std.specs.Prelude.{◌≡◌, ◌<◌, ◌↔◌, map, IfOk, IfSome, IsSome, IsErrOf};
 ghost use Rattle.relay_history.specs.History.{Reaches, changes_since};
 ghost use Rattle.relay_room.specs.Room.{revision};
-ghost use Rattle.relay_room.specs.CatchUp.{caught_up, caught_up_within, patch_or_nothing, patch_or_snapshot, LeadsOn, Fits};
+ghost use Rattle.relay_room.specs.CatchUp.{caught_up, caught_up_within, patch_or_nothing};
+ghost use Rattle.relay_room.specs.CatchUp.{patch_or_snapshot, LeadsOn, Fits};
 ghost use Rattle.relay_room.specs.declared.catch_up.CatchUp.TheVariants.{Nothing};
 ghost use Rattle.relay_room.specs.declared.fault.CatchFault.TheVariants.{Future};
 

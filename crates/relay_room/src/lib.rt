@@ -3,8 +3,9 @@
 //!
 //! The promise: a document changes only by whole patches, each of which makes one revision, and
 //! stays within its bounds. A client that knows the revision of its view gets from
-//! [`Room::catch_up`] exactly what the view missed, or learns that it needs a snapshot. The same
-//! call serves clients that return and clients that were connected all along. Contracts see a room
+//! [`Room::catch_up_within`] exactly what the view missed, or learns that it needs a snapshot. The
+//! hub makes the same call for clients that return and for those that were connected all along.
+//! Contracts see a room
 //! as a `State` of `specs/`.
 #![tactic(auto)]
 

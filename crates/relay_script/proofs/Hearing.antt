@@ -1,5 +1,6 @@
 -- Lemmas about the texts that a follower receives.
-use Rattle.std.proofs.Common.{◌≡◌, ◌≢◌, ℕ, List, Bool, true, Option, Some, None, option_map, Result, Ok, Err, nat_lt, if◌then◌else◌, refl, OnOk, OnErr, IfErr}
+use Rattle.std.proofs.Common.{◌≡◌, ◌≢◌, ℕ, List, Bool, true, Option, Some, None, option_map, Result}
+use Rattle.std.proofs.Common.{Ok, Err, nat_lt, if◌then◌else◌, refl, OnOk, OnErr, IfErr}
 use Rattle.std.specs.Result.{result_err}
 use Rattle.std.specs.Str.{IsUtf8}
 use Rattle.relay_tree.specs.Document.{Document}
@@ -10,7 +11,8 @@ use Rattle.relay_proto.specs.declared.message.Message.{Message}
 use Rattle.relay_proto.specs.declared.message.Message.TheVariants.{Patch}
 use Rattle.relay_proto.specs.MessageRead.{message_of_text}
 use Rattle.relay_proto.specs.Client.{lost, led_to, client}
-use Rattle.relay_follow.specs.Hearing.{as_client, told, apply_fault, message_fault, read_fault, hear_fault}
+use Rattle.relay_follow.specs.Hearing.{as_client, told, apply_fault, message_fault, read_fault}
+use Rattle.relay_follow.specs.Hearing.{hear_fault}
 use Rattle.relay_follow.specs.declared.fault.HearFault.{HearFault}
 use Rattle.relay_follow.specs.declared.fault.HearFault.TheVariants.{Order, NoMemory}
 use Rattle.relay_script.specs.Follow.{Takes}

@@ -1,5 +1,8 @@
 -- Lemmas about the lines of a text.
-use Rattle.std.proofs.Common.{◌≡◌, ◌≢◌, ℕ, ◌+◌, ◌-◌, ◌<◌, ◌≤◌, List, [], ◌∷◌, ◌++◌, length, take, drop, Bool, true, false, cond, ne_eqb, refl, sym, ◌∙◌, ap, subst, arith, not, ◌==◌, length-append, append_assoc, append-nil, Option, Some, None}
+use Rattle.std.proofs.Common.{◌≡◌, ◌≢◌, ℕ, ◌+◌, ◌-◌, ◌<◌, ◌≤◌, List, [], ◌∷◌, ◌++◌, length, take}
+use Rattle.std.proofs.Common.{drop, Bool, true, false, cond, ne_eqb, refl, sym, ◌∙◌, ap, subst}
+use Rattle.std.proofs.Common.{arith, not, ◌==◌, length-append, append_assoc, append-nil, Option}
+use Rattle.std.proofs.Common.{Some, None}
 use Rattle.std.proofs.lemmas.List.{drop-take, drop-drop}
 use Rattle.std.proofs.lemmas.List.Elements.{All-head, All-tail, All-append}
 use Rattle.relay_script.specs.Lines.{onto_first, lines_of, HasNoBreak, TakesLine, BeginsTooLong}

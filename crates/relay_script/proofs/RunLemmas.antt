@@ -1,15 +1,21 @@
 -- Lemmas about runs over the lines of an input.
-use Rattle.std.proofs.Common.{◌≡◌, ◌⊎◌, ◌≢◌, ℕ, ◌+◌, ◌<◌, List, [], ◌∷◌, ◌++◌, length, take, refl, sym, ◌∙◌, ap, subst, append_assoc, append-nil, length-append, Option, Some, None, IfSome, OnOk, IfErr, Result, Ok, Err, true, inl, inr, arith}
+use Rattle.std.proofs.Common.{◌≡◌, ◌⊎◌, ◌≢◌, ℕ, ◌+◌, ◌<◌, List, [], ◌∷◌, ◌++◌, length, take, refl}
+use Rattle.std.proofs.Common.{sym, ◌∙◌, ap, subst, append_assoc, append-nil, length-append, Option}
+use Rattle.std.proofs.Common.{Some, None, IfSome, OnOk, IfErr, Result, Ok, Err, true, inl, inr}
+use Rattle.std.proofs.Common.{arith}
 use Rattle.std.specs.Bool.{⊤}
 use Rattle.std.specs.Io.KnownBytes.{Appends, Keeps, prepend_known}
 use Rattle.std.proofs.KnownBytes.{Appends-trans, Appends-nil}
 use Rattle.std.proofs.lemmas.List.Elements.{All-nil}
 use Rattle.relay_script.specs.declared.fault.ScriptFault.{ScriptFault}
-use Rattle.relay_script.specs.declared.fault.ScriptFault.TheVariants.{BadLimit, Input, Output, LineTooLong, TooManyLines, NoMemory}
+use Rattle.relay_script.specs.declared.fault.ScriptFault.TheVariants.{BadLimit, Input, Output}
+use Rattle.relay_script.specs.declared.fault.ScriptFault.TheVariants.{LineTooLong, TooManyLines}
+use Rattle.relay_script.specs.declared.fault.ScriptFault.TheVariants.{NoMemory}
 use Rattle.relay_script.specs.declared.input.TheConstants.{MAX_LINE}
 use Rattle.relay_script.specs.declared.run.TheConstants.{MAX_LINES}
 use Rattle.relay_script.specs.Lines.{lines_of, TakesLine, BeginsTooLong, AppendsPart}
-use Rattle.relay_script.specs.Respond.{Answering, Runs, start, step, TakesLines, AreWithin, StopsAfter, StopsBefore, AnswersAll, AnswersSome}
+use Rattle.relay_script.specs.Respond.{Answering, Runs, start, step, TakesLines, AreWithin}
+use Rattle.relay_script.specs.Respond.{StopsAfter, StopsBefore, AnswersAll, AnswersSome}
 use Rattle.relay_script.proofs.LineLemmas.{lines_of-some}
 
 -- no line was read

@@ -7,8 +7,11 @@ use Rattle.relay_hub.specs.declared.event.Event.{Event}
 use Rattle.relay_hub.specs.declared.fault.HubFault.{HubFault}
 use Rattle.relay_access.specs.declared.access.Access.{Access}
 use Rattle.relay_tree.specs.Document.{Document}
-use Rattle.relay_script.specs.Line.{Act, opens, says, draws, closes, shows, tells, Form, blank, unknown, named}
-use Rattle.relay_script.specs.Script.{Stage, stage, Opens, DoesWill, Closes, ActsOpen, Goes, Attends, OnlyName, ActsNew, ActsNamed, Does, Answers, client_of}
+use Rattle.relay_script.specs.Line.{Act, opens, says, draws, closes, shows, tells, Form, blank}
+use Rattle.relay_script.specs.Line.{unknown, named}
+use Rattle.relay_script.specs.Script.{Stage, stage, Opens, DoesWill, Closes, ActsOpen, Goes}
+use Rattle.relay_script.specs.Script.{Attends, OnlyName, ActsNew, ActsNamed, Does, Answers}
+use Rattle.relay_script.specs.Script.{client_of}
 use Rattle.relay_script.specs.Transport.{Transporting, Telling}
 use Rattle.relay_script.specs.declared.outcome.Outcome.{Outcome}
 use Rattle.relay_script.specs.declared.outcome.Outcome.TheVariants.{Answered}

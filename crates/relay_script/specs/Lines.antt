@@ -1,5 +1,6 @@
 -- The lines of a text: each ends with a line feed, and the last may lack it.
-use Rattle.std.specs.Prelude.{◌≡◌, ◌≢◌, ℕ, ◌<◌, ◌==◌, if◌then◌else◌, List, [], ◌∷◌, ◌++◌, length, take, ◌≤◌, All, ⊤, Option, Some, None, IfSome, Bool, true, false}
+use Rattle.std.specs.Prelude.{◌≡◌, ◌≢◌, ℕ, ◌<◌, ◌==◌, if◌then◌else◌, List, [], ◌∷◌, ◌++◌, length}
+use Rattle.std.specs.Prelude.{take, ◌≤◌, All, ⊤, Option, Some, None, IfSome, Bool, true, false}
 use Rattle.std.specs.Io.KnownBytes.{Appends}
 
 -- the lines, with a byte put at the front of the first one

@@ -1,9 +1,11 @@
 -- Runs of a state that answers lines: over the lines of an input, with what is written for them.
-use Rattle.std.specs.Prelude.{◌≡◌, ◌≢◌, ℕ, ◌+◌, ◌<◌, ◌≤◌, ◌⊎◌, List, [], ◌∷◌, ◌++◌, length, take, All, ⊤, Option, Some, None, IfSome}
+use Rattle.std.specs.Prelude.{◌≡◌, ◌≢◌, ℕ, ◌+◌, ◌<◌, ◌≤◌, ◌⊎◌, List, [], ◌∷◌, ◌++◌, length, take}
+use Rattle.std.specs.Prelude.{All, ⊤, Option, Some, None, IfSome}
 use Rattle.std.specs.Io.KnownBytes.{Appends}
 use Rattle.relay_script.specs.Lines.{lines_of, FirstIsTooLong}
 use Rattle.relay_script.specs.declared.fault.ScriptFault.{ScriptFault}
-use Rattle.relay_script.specs.declared.fault.ScriptFault.TheVariants.{Output, LineTooLong, TooManyLines}
+use Rattle.relay_script.specs.declared.fault.ScriptFault.TheVariants.{Output, LineTooLong}
+use Rattle.relay_script.specs.declared.fault.ScriptFault.TheVariants.{TooManyLines}
 use Rattle.relay_script.specs.declared.input.TheConstants.{MAX_LINE}
 use Rattle.relay_script.specs.declared.run.TheConstants.{MAX_LINES}
 

@@ -1,5 +1,6 @@
 -- The answers to the lines of a script, by the outcomes of its events at a transport.
-use Rattle.std.specs.Prelude.{◌≡◌, ℕ, List, [], ◌++◌, Option, Some, None, Result, bytes_eq, if◌then◌else◌}
+use Rattle.std.specs.Prelude.{◌≡◌, ℕ, List, [], ◌++◌, Option, Some, None, Result, bytes_eq}
+use Rattle.std.specs.Prelude.{if◌then◌else◌}
 use Rattle.std.specs.Map.{lookup}
 use Rattle.relay_follow.specs.Hearing.{as_client, told, hear_fault}
 use Rattle.relay_follow.specs.declared.fault.HearFault.{HearFault}
@@ -11,9 +12,11 @@ use Rattle.relay_hub.specs.declared.event.Event.TheVariants.{Open, Receive, Draw
 use Rattle.relay_hub.specs.declared.fault.HubFault.{HubFault}
 use Rattle.relay_access.specs.declared.access.Access.{Access}
 use Rattle.relay_tree.specs.Document.{Document}
-use Rattle.relay_script.specs.Line.{Act, opens, says, draws, closes, shows, tells, Form, blank, unknown, named, LineIs}
+use Rattle.relay_script.specs.Line.{Act, opens, says, draws, closes, shows, tells, Form, blank}
+use Rattle.relay_script.specs.Line.{unknown, named, LineIs}
 use Rattle.relay_script.specs.Transport.{Transporting, Telling, session_after, HubComes, HubTells}
-use Rattle.relay_script.specs.Words.{unknown_text, form_text, taken_text, outcome_text, after_will, off_text, held_text, shown_text}
+use Rattle.relay_script.specs.Words.{unknown_text, form_text, taken_text, outcome_text, after_will}
+use Rattle.relay_script.specs.Words.{off_text, held_text, shown_text}
 use Rattle.relay_script.specs.declared.outcome.Outcome.{Outcome}
 use Rattle.relay_script.specs.declared.outcome.Outcome.TheVariants.{Answered}
 use Rattle.relay_script.specs.declared.retrying_follower.RetryingFollower.{RetryingFollower}

@@ -1,9 +1,12 @@
 -- The texts of answers: `NAME` and the result of its line.
-use Rattle.std.specs.Prelude.{[], ℕ, zero, suc, List, ◌++◌, codes, decimal, Option, Some, None, Result, Ok, Err}
+use Rattle.std.specs.Prelude.{[], ℕ, zero, suc, List, ◌++◌, codes, decimal, Option, Some, None}
+use Rattle.std.specs.Prelude.{Result, Ok, Err}
 use Rattle.relay_follow.specs.declared.fault.HearFault.{HearFault}
 use Rattle.relay_follow.specs.declared.fault.HearFault.TheVariants as hear
 use Rattle.relay_hub.specs.declared.event.Answer.{Answer}
-use Rattle.relay_hub.specs.declared.event.Answer.TheVariants.{Opened, NotOpened, Heard, Drawn, Closed, WillDone, NoWill, Forgotten, NotForgotten, NoSession}
+use Rattle.relay_hub.specs.declared.event.Answer.TheVariants.{Opened, NotOpened, Heard, Drawn}
+use Rattle.relay_hub.specs.declared.event.Answer.TheVariants.{Closed, WillDone, NoWill, Forgotten}
+use Rattle.relay_hub.specs.declared.event.Answer.TheVariants.{NotForgotten, NoSession}
 use Rattle.relay_hub.specs.declared.event.Heard.TheVariants.{Answered, Busy}
 use Rattle.relay_hub.specs.declared.fault.HubFault.{HubFault}
 use Rattle.relay_hub.specs.declared.fault.HubFault.TheVariants as hub

@@ -1,5 +1,7 @@
 //! A reader of lines, over a reader of bytes.
-ghost use Rattle.std.specs.Prelude.{◌≡◌, ◌↔◌, ℕ, ◌+◌, ◌-◌, ◌<◌, ◌≤◌, ◌==◌, if◌then◌else◌, List, [], ◌++◌, take, drop, length, position, IfOk, IfErr, OnErr, IsTrue, vec_len, OnOk, Ok, Err, ◌⊎◌, ◌≢◌, false};
+ghost use Rattle.std.specs.Prelude.{◌≡◌, ◌↔◌, ℕ, ◌+◌, ◌-◌, ◌<◌, ◌≤◌, ◌==◌, if◌then◌else◌, List, []};
+ghost use Rattle.std.specs.Prelude.{◌++◌, take, drop, length, position, IfOk, IfErr, OnErr, IsTrue};
+ghost use Rattle.std.specs.Prelude.{vec_len, OnOk, Ok, Err, ◌⊎◌, ◌≢◌, false};
 ghost use Rattle.std.specs.Io.KnownBytes.{Keeps, Consumes, IsAtEnd, prepend_known};
 ghost use Rattle.relay_script.specs.Lines.{HasNoBreak, TakesPart, TakesLine, BeginsTooLong};
 ghost use Rattle.relay_script.specs.declared.input.TheConstants.{MAX_LINE, MAX_READ};

@@ -1,6 +1,7 @@
 //! The lines of a script: `NAME WORD` or `NAME WORD REST`, with single spaces.
 ghost use Rattle.std.specs.Prelude.{◌≡◌, option_map};
-ghost use Rattle.relay_script.specs.Line.{LineIs, form_of, with_rest, alone, act_in, act_of, named_form, is_name, opening_of, shown};
+ghost use Rattle.relay_script.specs.Line.{LineIs, form_of, with_rest, alone, act_in, act_of};
+ghost use Rattle.relay_script.specs.Line.{named_form, is_name, opening_of, shown};
 
 use relay_access::Access;
 use std::str;

@@ -2,7 +2,8 @@
 ghost use Rattle.std.specs.Prelude.{◌≡◌, [], Some, IfOk, OnOk, string_bytes};
 ghost use Rattle.relay_script.specs.Representation.{clients_of, stage_of};
 ghost use Rattle.relay_script.specs.Line.{act_of, opens};
-ghost use Rattle.relay_script.specs.Script.{stage, client, new_follower, Answers, OnlyName, ActsNamed, ActsNew, client_of};
+ghost use Rattle.relay_script.specs.Script.{stage, client, new_follower, Answers, OnlyName};
+ghost use Rattle.relay_script.specs.Script.{ActsNamed, ActsNew, client_of};
 
 use crate::line::{Command, Line, line_of};
 use crate::respond::Respond;

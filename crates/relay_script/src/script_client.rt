@@ -2,7 +2,8 @@
 ghost use Rattle.std.specs.Prelude.{◌≡◌, ◌≢◌, IfOk, Some, None, string_bytes};
 ghost use Rattle.relay_follow.specs.declared.fault.HearFault.TheVariants.{NoMemory};
 ghost use Rattle.relay_script.specs.Line.{act_of};
-ghost use Rattle.relay_script.specs.Script.{client, new_follower, Opens, DoesWill, Closes, Acts, Goes, Attends, DrawsAs};
+ghost use Rattle.relay_script.specs.Script.{client, new_follower, Opens, DoesWill, Closes, Acts};
+ghost use Rattle.relay_script.specs.Script.{Goes, Attends, DrawsAs};
 
 use crate::line::Command;
 use crate::outcome::Outcome;

@@ -1,7 +1,8 @@
 //! The trait of a script's transport: a hub, or sockets in front of one.
 ghost use Rattle.std.specs.Prelude.{◌≡◌, ℕ, Option, Result, IfOk};
 ghost use Rattle.relay_hub.specs.declared.event.Event.{Event};
-ghost use Rattle.relay_hub.specs.declared.event.Event.TheVariants.{Open, Receive, Draw, Close, DoWill};
+ghost use Rattle.relay_hub.specs.declared.event.Event.TheVariants.{Open, Receive, Draw, Close};
+ghost use Rattle.relay_hub.specs.declared.event.Event.TheVariants.{DoWill};
 ghost use Rattle.relay_hub.specs.declared.fault.HubFault.{HubFault};
 ghost use Rattle.relay_tree.specs.Document.{Document};
 ghost use Rattle.relay_script.specs.declared.outcome.Outcome.{Outcome};

@@ -3,7 +3,10 @@ ghost use Rattle.std.specs.Prelude.{◌≡◌, IfOk, string_bytes};
 ghost use Rattle.relay_hub.specs.declared.event.Answer.TheVariants as answer;
 ghost use Rattle.relay_hub.specs.declared.event.Heard.TheVariants as heard;
 ghost use Rattle.relay_script.specs.Script.{after_hearing};
-ghost use Rattle.relay_script.specs.Words.{unknown_text, no_memory_text, form_text, taken_text, open_word, answer_text, outcome_text, after_will, hear_word, off_text, held_text, view_text, truth_text, shown_text};
+ghost use Rattle.relay_script.specs.Words.{unknown_text, no_memory_text, form_text, taken_text};
+ghost use Rattle.relay_script.specs.Words.{open_word, answer_text, outcome_text, after_will};
+ghost use Rattle.relay_script.specs.Words.{hear_word, off_text, held_text, view_text, truth_text};
+ghost use Rattle.relay_script.specs.Words.{shown_text};
 
 use crate::outcome::Outcome;
 use relay_follow::{Follower, HearFault};

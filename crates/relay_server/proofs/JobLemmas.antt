@@ -1,5 +1,6 @@
 -- Lemmas about the ends of jobs.
-use Rattle.std.proofs.Common.{◌≡◌, ◌≢◌, ◌↔◌, ◌⊎◌, inl, inr, ℕ, List, Option, Result, Ok, Err, OnOk, IfErr, IsErrOf, refl, sym, ap, subst}
+use Rattle.std.proofs.Common.{◌≡◌, ◌≢◌, ◌↔◌, ◌⊎◌, inl, inr, ℕ, List, Option, Result, Ok, Err, OnOk}
+use Rattle.std.proofs.Common.{IfErr, IsErrOf, refl, sym, ap, subst}
 use Rattle.std.specs.Prelude.{⊤}
 use Rattle.std.specs.Io.KnownBytes.{IsAtEnd}
 use Rattle.relay_options.specs.declared.job.Job.{Job}
@@ -14,7 +15,8 @@ use Rattle.relay_loopback.specs.declared.fault.ServeFault.TheVariants.{Ended, Li
 use Rattle.relay_loopback.specs.Faults.{IsListen}
 use Rattle.relay_server.specs.declared.status.Status.{Status}
 pub use Rattle.relay_script.proofs.Limits.{limits_kept}
-use Rattle.relay_script.proofs.RunLemmas.{on_success, if_fault, AnswersSome-none, AnswersAll-seen, AnswersSome-seen}
+use Rattle.relay_script.proofs.RunLemmas.{on_success, if_fault, AnswersSome-none, AnswersAll-seen}
+use Rattle.relay_script.proofs.RunLemmas.{AnswersSome-seen}
 
 -- the end of a job, for an equal job
 pub JobEnds-at : (todo known : Job) (status : Status) (input left old new : Option (List ℕ))

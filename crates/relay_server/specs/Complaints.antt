@@ -5,7 +5,9 @@ use Rattle.std.specs.declared.io.ErrorKind.{ErrorKind}
 use Rattle.std.specs.declared.io.ErrorKind.TheVariants as kind
 use Rattle.relay_script.specs.Lines.{AppendsPart}
 use Rattle.relay_script.specs.declared.fault.ScriptFault.{ScriptFault}
-use Rattle.relay_script.specs.declared.fault.ScriptFault.TheVariants.{BadLimit, Input, Output, LineTooLong, TooManyLines, NoMemory}
+use Rattle.relay_script.specs.declared.fault.ScriptFault.TheVariants.{BadLimit, Input, Output}
+use Rattle.relay_script.specs.declared.fault.ScriptFault.TheVariants.{LineTooLong, TooManyLines}
+use Rattle.relay_script.specs.declared.fault.ScriptFault.TheVariants.{NoMemory}
 
 abbrev pub complaint : ScriptFault → List ℕ
 complaint BadLimit = codes "relay: a limit out of range\n"

@@ -1,5 +1,6 @@
 -- The ends of the program's jobs, and their statuses.
-use Rattle.std.specs.Prelude.{◌≡◌, ◌≤◌, ◌↔◌, ℕ, ◌⊎◌, ⊤, List, [], Option, Some, None, Result, Ok, Err, IsErrOf, string_bytes}
+use Rattle.std.specs.Prelude.{◌≡◌, ◌≤◌, ◌↔◌, ℕ, ◌⊎◌, ⊤, List, [], Option, Some, None, Result, Ok}
+use Rattle.std.specs.Prelude.{Err, IsErrOf, string_bytes}
 use Rattle.std.specs.Io.KnownBytes.{IsAtEnd, Appends, Keeps}
 use Rattle.std.specs.declared.io.ErrorKind.{ErrorKind}
 use Rattle.std.specs.declared.io.ErrorKind.TheVariants as kind

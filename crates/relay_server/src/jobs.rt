@@ -6,7 +6,8 @@ ghost use Rattle.relay_loopback.specs.Loopback.{hub_of};
 ghost use Rattle.relay_script.specs.Lines.{AppendsPart};
 ghost use Rattle.relay_server.specs.Complaints.{unread_complaint};
 ghost use Rattle.relay_server.specs.Config.{config_of};
-ghost use Rattle.relay_server.specs.Jobs.{JobEnds, LoopEnds, Starts, StopEnds, code_of, sockets_status, unread_status};
+ghost use Rattle.relay_server.specs.Jobs.{JobEnds, LoopEnds, Starts, StopEnds, code_of};
+ghost use Rattle.relay_server.specs.Jobs.{sockets_status, unread_status};
 ghost use Rattle.relay_script.specs.declared.fault.ScriptFault.TheVariants.{BadLimit};
 ghost use Rattle.relay_loopback.specs.declared.fault.ServeFault.TheVariants.{Ended};
 

@@ -10,7 +10,8 @@ ghost use Rattle.relay_server.specs.Printed.{line_of, served_text};
 ghost use Rattle.relay_event_loop.specs.Connections.{hub_of, made_by, made_after};
 ghost use Rattle.relay_event_loop.specs.Rounds.{RoundsOf};
 ghost use Rattle.relay_server.specs.Hosted.{HeadlineHolds};
-ghost use Rattle.relay_script.specs.declared.fault.ScriptFault.TheVariants.{BadLimit, NoMemory, Output};
+ghost use Rattle.relay_script.specs.declared.fault.ScriptFault.TheVariants.{BadLimit, NoMemory};
+ghost use Rattle.relay_script.specs.declared.fault.ScriptFault.TheVariants.{Output};
 ghost use Rattle.relay_loopback.specs.declared.fault.ServeFault.TheVariants.{Ended};
 
 use crate::bound_listener::{self, BoundListener};
@@ -71,7 +72,7 @@ pub fn serve<N: Clock + Net, W: Write, E: Write>(
 {
     warn_of_strangers(options.listen, errors);
     if options.log {
-        serve_logged(
+        serve_with(
             alloc,
             net,
             writer,
@@ -80,7 +81,7 @@ pub fn serve<N: Clock + Net, W: Write, E: Write>(
             settings,
         )
     } else {
-        serve_logged(alloc, net, writer, &mut NoLog, options, settings)
+        serve_with(alloc, net, writer, &mut NoLog, options, settings)
     }
 }
 
@@ -94,8 +95,9 @@ fn warn_of_strangers<E: Write>(address: IpAddr, errors: &mut E) {
     }
 }
 
+/// Makes the hub of the settings, and serves it with this log.
 #[tactic(auto, using(crate::proofs::JobLemmas::limits_kept, crate::proofs::ServeLemmas::ends_unmade))]
-fn serve_logged<N: Clock + Net, W: Write, J: ConnectionLog>(
+fn serve_with<N: Clock + Net, W: Write, J: ConnectionLog>(
     alloc: Global,
     net: &N,
     writer: &mut W,

@@ -59,8 +59,11 @@ impl<R: AllocGlobal> Subject<R> for ScriptLimits {
 
 fn limits(alloc: Global) -> Option<String> {
     format!(in alloc;
-        "{MAX_LINE} bytes of a line, {MAX_LINES} lines of a script, {MAX_REVISIONS} revisions of a history, {MAX_WAITING_PATCHES} patches that wait, {MAX_ROOMS} rooms, {MAX_SESSIONS} sessions"
-    ).ok()
+        "{MAX_LINE} bytes of a line, {MAX_LINES} lines of a script, {MAX_REVISIONS} revisions of \
+         a history, {MAX_WAITING_PATCHES} patches that wait, {MAX_ROOMS} rooms, {MAX_SESSIONS} \
+         sessions"
+    )
+    .ok()
 }
 
 /// How many connections there may be beside so many sessions.

@@ -1,5 +1,7 @@
 -- Lemmas on the statuses of refusals.
-use Rattle.std.proofs.Common.{◌≡◌, ℕ, ◌++◌, ◌∷◌, Bool, true, false, refl, sym, subst, eqb-true, unwrap_or, [], List, Option, Some, None, option_map, append_assoc, ap, ◌∙◌, Result, Ok, Err, ◌==◌, ◌||◌, IsTrue, IsSome}
+use Rattle.std.proofs.Common.{◌≡◌, ℕ, ◌++◌, ◌∷◌, Bool, true, false, refl, sym, subst, eqb-true}
+use Rattle.std.proofs.Common.{unwrap_or, [], List, Option, Some, None, option_map, append_assoc, ap}
+use Rattle.std.proofs.Common.{◌∙◌, Result, Ok, Err, ◌==◌, ◌||◌, IsTrue, IsSome}
 use Rattle.std.specs.Result.{OkIff}
 use denote.Ref.{Bor}
 use Rattle.http.specs.StatusCode.{code_digits, reason_phrase}

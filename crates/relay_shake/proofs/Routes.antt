@@ -1,5 +1,9 @@
 -- Lookups in a router with one route: a prefix and then a parameter.
-use Rattle.std.proofs.Common.{◌≡◌, ℕ, suc, ◌+◌, ◌-◌, ◌<◌, ◌≤◌, Bool, true, false, not, cond, List, [], ◌∷◌, ◌++◌, length, take, drop, get_or, ltb, leb, codes, All, Option, Some, None, refl, sym, ◌∙◌, ap, subst, ne_eqb, eqb-true, add-zero, arith, lit<, ◌==◌, ◌&&◌, option_copied, MatchOption, IsUtf8, IsAscii}
+use Rattle.std.proofs.Common.{◌≡◌, ℕ, suc, ◌+◌, ◌-◌, ◌<◌, ◌≤◌, Bool, true, false, not, cond, List}
+use Rattle.std.proofs.Common.{[], ◌∷◌, ◌++◌, length, take, drop, get_or, ltb, leb, codes, All}
+use Rattle.std.proofs.Common.{Option, Some, None, refl, sym, ◌∙◌, ap, subst, ne_eqb, eqb-true}
+use Rattle.std.proofs.Common.{add-zero, arith, lit<, ◌==◌, ◌&&◌, option_copied, MatchOption, IsUtf8}
+use Rattle.std.proofs.Common.{IsAscii}
 use denote.Ref.{Bor}
 use Rattle.std.proofs.lemmas.Bool.Decides.{nat_tests}
 use Rattle.std.proofs.lemmas.List.{take_all, length-drop}

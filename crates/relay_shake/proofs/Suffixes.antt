@@ -1,5 +1,7 @@
 -- The text before a suffix is what `strip_suffix` finds.
-use Rattle.std.proofs.Common.{◌≡◌, ◌≢◌, ◌∙◌, ℕ, ◌-◌, Bool, true, false, if◌then◌else◌, List, ◌++◌, length, take, nat_eq, Option, Some, None, refl, sym, ap, option_copied, MatchOption}
+use Rattle.std.proofs.Common.{◌≡◌, ◌≢◌, ◌∙◌, ℕ, ◌-◌, Bool, true, false, if◌then◌else◌, List, ◌++◌}
+use Rattle.std.proofs.Common.{length, take, nat_eq, Option, Some, None, refl, sym, ap}
+use Rattle.std.proofs.Common.{option_copied, MatchOption}
 use denote.Ref.{Bor}
 use Rattle.std.specs.List.{ends_with}
 use Rattle.std.specs.Str.Pattern.{FindsTextSuffix, StripsSuffix}

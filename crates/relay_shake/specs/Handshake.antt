@@ -1,5 +1,6 @@
 -- The verdict on a head (RFC 6455, section 4.2.1).
-use Rattle.std.specs.Prelude.{ℕ, Bool, not, ◌==◌, nat_lt, nat_le, if◌then◌else◌, List, [], ◌∷◌, length, take, codes, bytes_eq, Option, Some, None, is_some, unwrap_or}
+use Rattle.std.specs.Prelude.{ℕ, Bool, not, ◌==◌, nat_lt, nat_le, if◌then◌else◌, List, [], ◌∷◌}
+use Rattle.std.specs.Prelude.{length, take, codes, bytes_eq, Option, Some, None, is_some, unwrap_or}
 use Rattle.httparse.specs.Grammar.{RequestHead}
 use Rattle.relay_access.specs.declared.access.Access.{Access}
 use Rattle.relay_access.specs.declared.access.Access.TheVariants.{ReadOnly}

@@ -11,9 +11,9 @@ accept_value key = encode_of standard (sha1 (key ++ codes "258EAFA5-E914-47DA-95
 -- the reply to a good handshake with the key
 abbrev pub accept_reply : List ℕ → List ℕ
 accept_reply key =
-    codes
-    "HTTP/1.1 101 Switching Protocols\r\nUpgrade: websocket\r\nConnection: Upgrade\r\nSec-WebSocket-Accept: "
-    ++ accept_value key ++ codes "\r\n\r\n"
+    codes "HTTP/1.1 101 Switching Protocols\r\n" ++ codes "Upgrade: websocket\r\n"
+    ++ codes "Connection: Upgrade\r\n" ++ codes "Sec-WebSocket-Accept: " ++ accept_value key
+    ++ codes "\r\n\r\n"
 
 -- the statuses of refusals
 abbrev pub is_refusal : ℕ → Bool
@@ -37,8 +37,8 @@ refusal_fields status =
     if status == 405 then codes "\r\nAllow: GET\r\nContent-Length: 0\r\nConnection: close\r\n\r\n"
     else
     if status == 426 then
-    codes
-    "\r\nUpgrade: websocket\r\nSec-WebSocket-Version: 13\r\nContent-Length: 0\r\nConnection: close, Upgrade\r\n\r\n"
+    codes "\r\nUpgrade: websocket\r\nSec-WebSocket-Version: 13\r\n"
+    ++ codes "Content-Length: 0\r\nConnection: close, Upgrade\r\n\r\n"
     else codes "\r\nContent-Length: 0\r\nConnection: close\r\n\r\n"
 
 -- the reply that refuses a handshake
@@ -49,5 +49,5 @@ refusal_of status = codes "HTTP/1.1 " ++ status_text status ++ refusal_fields st
 -- second (RFC 9110, section 10.2.3)
 abbrev pub closed_refusal : List ℕ
 closed_refusal =
-    codes
-    "HTTP/1.1 503 Service Unavailable\r\nRetry-After: 1\r\nContent-Length: 0\r\nConnection: close\r\n\r\n"
+    codes "HTTP/1.1 503 Service Unavailable\r\n" ++ codes "Retry-After: 1\r\n"
+    ++ codes "Content-Length: 0\r\n" ++ codes "Connection: close\r\n\r\n"

@@ -1,5 +1,6 @@
 -- The targets of rooms.
-use Rattle.std.specs.Prelude.{ℕ, Bool, false, not, ◌==◌, ◌-◌, if◌then◌else◌, List, [], ◌∷◌, length, take, codes, nat_eq, Option, Some, None, option_map, option_and_then}
+use Rattle.std.specs.Prelude.{ℕ, Bool, false, not, ◌==◌, ◌-◌, if◌then◌else◌, List, [], ◌∷◌, length}
+use Rattle.std.specs.Prelude.{take, codes, nat_eq, Option, Some, None, option_map, option_and_then}
 use Rattle.std.specs.List.{list_all, ends_with}
 use Rattle.std.specs.Option.{option_or}
 use Rattle.relay_access.specs.RoomName.{is_room_name}

@@ -1,8 +1,10 @@
 -- The answer to the bytes received so far.
 use Rattle.std.specs.Prelude.{◌≡◌, ◌⊎◌, ℕ, List, ◌++◌, drop, string_bytes}
-use Rattle.httparse.specs.Grammar.{RequestHead, ReadsRequest, HasNoRequest, NeverHasRequest, MayBecomeRequest}
+use Rattle.httparse.specs.Grammar.{RequestHead, ReadsRequest, HasNoRequest, NeverHasRequest}
+use Rattle.httparse.specs.Grammar.{MayBecomeRequest}
 use Rattle.relay_shake.specs.declared.reading.TheConstants.{MAX_HEAD}
-use Rattle.relay_shake.specs.Handshake.{Verdict, wait, accept, refuse, verdict_of, window, verdict_before_head}
+use Rattle.relay_shake.specs.Handshake.{Verdict, wait, accept, refuse, verdict_of, window}
+use Rattle.relay_shake.specs.Handshake.{verdict_before_head}
 use Rattle.relay_shake.specs.Replies.{accept_reply, refusal_of}
 use Rattle.relay_shake.specs.declared.answer.Shake.{Shake}
 use Rattle.relay_shake.specs.declared.answer.Shake.TheVariants.{More, Accept, Refuse}

@@ -1,6 +1,7 @@
 //! The bytes of the handshake replies.
 ghost use Rattle.std.specs.Prelude.{◌≡◌, ◌++◌, IfOk, OnOk, IsTrue, codes, string_bytes};
-ghost use Rattle.relay_shake.specs.Replies.{accept_value, accept_reply, closed_refusal, status_text, refusal_fields, refusal_of, is_refusal};
+ghost use Rattle.relay_shake.specs.Replies.{accept_value, accept_reply, closed_refusal};
+ghost use Rattle.relay_shake.specs.Replies.{status_text, refusal_fields, refusal_of, is_refusal};
 
 use base64::engine::general_purpose::STANDARD;
 use http::StatusCode;
@@ -70,7 +71,10 @@ pub fn closed_refusal(alloc: Global) -> Result<Vec<u8>, AllocError>
 {
     let mut reply = Vec::new(alloc);
     reply.extend_from_slice(
-        b"HTTP/1.1 503 Service Unavailable\r\nRetry-After: 1\r\nContent-Length: 0\r\nConnection: close\r\n\r\n",
+        b"HTTP/1.1 503 Service Unavailable\r\n\
+          Retry-After: 1\r\n\
+          Content-Length: 0\r\n\
+          Connection: close\r\n\r\n",
     )?;
     Ok(reply)
 }
@@ -93,7 +97,11 @@ fn refusal_fields(status: u16) -> &'static str
     match status {
         405 => "\r\nAllow: GET\r\nContent-Length: 0\r\nConnection: close\r\n\r\n",
         426 => {
-            "\r\nUpgrade: websocket\r\nSec-WebSocket-Version: 13\r\nContent-Length: 0\r\nConnection: close, Upgrade\r\n\r\n"
+            "\r\n\
+             Upgrade: websocket\r\n\
+             Sec-WebSocket-Version: 13\r\n\
+             Content-Length: 0\r\n\
+             Connection: close, Upgrade\r\n\r\n"
         }
         _ => "\r\nContent-Length: 0\r\nConnection: close\r\n\r\n",
     }

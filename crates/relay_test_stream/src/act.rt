@@ -44,7 +44,13 @@ impl Wire {
     fn ask(&mut self, alloc: Global, words: &str) -> Result<(), AllocError> {
         let (version, target) = cut(words);
         let head = format!(in alloc;
-            "GET {target} HTTP/1.1\r\nHost: localhost\r\nUpgrade: websocket\r\nConnection: keep-alive, Upgrade\r\nSec-WebSocket-Key: dGhlIHNhbXBsZSBub25jZQ==\r\nSec-WebSocket-Version: {version}\r\nSec-WebSocket-Extensions: permessage-deflate\r\n\r\n"
+            "GET {target} HTTP/1.1\r\n\
+             Host: localhost\r\n\
+             Upgrade: websocket\r\n\
+             Connection: keep-alive, Upgrade\r\n\
+             Sec-WebSocket-Key: dGhlIHNhbXBsZSBub25jZQ==\r\n\
+             Sec-WebSocket-Version: {version}\r\n\
+             Sec-WebSocket-Extensions: permessage-deflate\r\n\r\n"
         );
         self.feed(head?.as_bytes())
     }

@@ -6,11 +6,18 @@ use std::alloc::{AllocError, Global};
 const REPLIES: [(&str, &str); 4] = [
     (
         "switched",
-        "HTTP/1.1 101 Switching Protocols\r\nUpgrade: websocket\r\nConnection: Upgrade\r\nSec-WebSocket-Accept: s3pPLMBiTxaQ9kYGzzhZRbK+xOo=\r\n\r\n",
+        "HTTP/1.1 101 Switching Protocols\r\n\
+         Upgrade: websocket\r\n\
+         Connection: Upgrade\r\n\
+         Sec-WebSocket-Accept: s3pPLMBiTxaQ9kYGzzhZRbK+xOo=\r\n\r\n",
     ),
     (
         "upgrade required",
-        "HTTP/1.1 426 Upgrade Required\r\nUpgrade: websocket\r\nSec-WebSocket-Version: 13\r\nContent-Length: 0\r\nConnection: close, Upgrade\r\n\r\n",
+        "HTTP/1.1 426 Upgrade Required\r\n\
+         Upgrade: websocket\r\n\
+         Sec-WebSocket-Version: 13\r\n\
+         Content-Length: 0\r\n\
+         Connection: close, Upgrade\r\n\r\n",
     ),
     (
         "unavailable",
@@ -18,7 +25,10 @@ const REPLIES: [(&str, &str); 4] = [
     ),
     (
         "try again",
-        "HTTP/1.1 503 Service Unavailable\r\nRetry-After: 1\r\nContent-Length: 0\r\nConnection: close\r\n\r\n",
+        "HTTP/1.1 503 Service Unavailable\r\n\
+         Retry-After: 1\r\n\
+         Content-Length: 0\r\n\
+         Connection: close\r\n\r\n",
     ),
 ];
 

@@ -1,5 +1,6 @@
 -- An act below some tokens, seen from a pointer.
-use Rattle.std.proofs.Common.{◌≡◌, ℕ, [], ◌∷◌, length, drop, Bool, true, false, Option, Some, Ok, refl, subst, bytes_eq, nat_le}
+use Rattle.std.proofs.Common.{◌≡◌, ℕ, [], ◌∷◌, length, drop, Bool, true, false, Option, Some, Ok}
+use Rattle.std.proofs.Common.{refl, subst, bytes_eq, nat_le}
 use Rattle.relay_tree.specs.Document.{Document}
 use Rattle.relay_tree.proofs.Names.{equal_bytes}
 use Rattle.relay_pointer.specs.Index.{Token, number_of}

@@ -1,5 +1,6 @@
 -- One change, seen from a pointer.
-use Rattle.std.proofs.Common.{◌≡◌, [], ◌∷◌, length, drop, Bool, true, false, ◌&&◌, Ok, refl, sym, subst, subst₂, ◌∙◌, bytes_eq, if◌then◌else◌}
+use Rattle.std.proofs.Common.{◌≡◌, [], ◌∷◌, length, drop, Bool, true, false, ◌&&◌, Ok, refl, sym}
+use Rattle.std.proofs.Common.{subst, subst₂, ◌∙◌, bytes_eq, if◌then◌else◌}
 use Rattle.std.proofs.lemmas.Slice.Eq.{bytes_eq-Decides}
 use Rattle.relay_tree.specs.Document.{Document}
 use Rattle.relay_tree.proofs.Names.{equal_bytes}
@@ -10,7 +11,8 @@ use Rattle.relay_patch.specs.declared.change.Place.{Place}
 use Rattle.relay_patch.specs.Place.{place_of}
 use Rattle.relay_patch.specs.declared.op.Op.{Op}
 use Rattle.relay_patch.specs.declared.op.Op.TheVariants.{Add, Remove, Replace, Move, Copy}
-use Rattle.relay_patch.specs.Patch.{Act, below, at_path, drop_child, insert_child, set_child, added, replaced, effect}
+use Rattle.relay_patch.specs.Patch.{Act, below, at_path, drop_child, insert_child, set_child, added}
+use Rattle.relay_patch.specs.Patch.{replaced, effect}
 use Rattle.relay_patch.specs.declared.change.Change.{Change}
 use Rattle.relay_patch.specs.Change.{Makes, Moves, placed, inserted_at}
 use Rattle.relay_patch.specs.declared.change.Change.TheVariants as change
@@ -18,9 +20,12 @@ use Rattle.relay_patch.proofs.Refusals.{then_ok}
 use Rattle.relay_patch.proofs.Carried.{plainly}
 use Rattle.relay_patch.proofs.Sites.{place_of-plain}
 use Rattle.relay_patch.proofs.Moved.{DidMove, from_moved}
-use Rattle.relay_translate.specs.Touch.{Touch, Apart, Inside, Reset, touch_path, touch_place, touch_either, touch_below, touch_value}
+use Rattle.relay_translate.specs.Touch.{Touch, Apart, Inside, Reset, touch_path, touch_place}
+use Rattle.relay_translate.specs.Touch.{touch_either, touch_below, touch_value}
 use Rattle.relay_translate.specs.Translate.{op_of, move_op, with_paths}
-use Rattle.relay_translate.proofs.Leaves.{Leaves, set_child_leaves, insert_in_object_leaves, insert_in_list_leaves, drop_in_object_leaves, drop_in_list_leaves}
+use Rattle.relay_translate.proofs.Leaves.{Leaves, set_child_leaves, insert_in_object_leaves}
+use Rattle.relay_translate.proofs.Leaves.{insert_in_list_leaves, drop_in_object_leaves}
+use Rattle.relay_translate.proofs.Leaves.{drop_in_list_leaves}
 use Rattle.relay_translate.proofs.Below.{IsInside, below_apart, below_inside, last_never_inside}
 use Rattle.relay_translate.proofs.Under.{Longer, IsDeep}
 

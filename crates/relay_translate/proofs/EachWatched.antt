@@ -1,16 +1,20 @@
 -- Each pointer of an index has a watcher, after one pointer's watchers changed.
-use Rattle.std.proofs.Common.{◌≡◌, ℕ, ◌==◌, List, [], ◌∷◌, Bool, true, false, cond, length, ◌&&◌, ◌||◌, refl, sym, ap, ◌∙◌, subst, eq-eqb, is_eq, nat_cmp, Result, Ok, Err, OnOk, OnErr, IsTrue, ◌↔◌, arith}
+use Rattle.std.proofs.Common.{◌≡◌, ℕ, ◌==◌, List, [], ◌∷◌, Bool, true, false, cond, length, ◌&&◌}
+use Rattle.std.proofs.Common.{◌||◌, refl, sym, ap, ◌∙◌, subst, eq-eqb, is_eq, nat_cmp, Result, Ok}
+use Rattle.std.proofs.Common.{Err, OnOk, OnErr, IsTrue, ◌↔◌, arith}
 use Rattle.std.specs.Bool.{MatchBool}
 use Rattle.std.specs.List.{All, IsAmong, list_any}
 use Rattle.std.specs.Map.{values_of, set_value, remove_entry}
 use Rattle.std.specs.BTreeMap.{insert_entry, is_at}
 use Rattle.std.specs.Cmp.{nat_cmp_total, tied_itself}
 use Rattle.std.proofs.lemmas.List.Elements.{All-nil}
-use Rattle.std.proofs.lemmas.Map.Views.{All-values-set_value, All-values-insert_entry, All-map-remove_entry}
+use Rattle.std.proofs.lemmas.Map.Views.{All-values-set_value, All-values-insert_entry}
+use Rattle.std.proofs.lemmas.Map.Views.{All-map-remove_entry}
 use Rattle.relay_view.specs.declared.slot.SlotKind.{SlotKind}
 use Rattle.relay_view.specs.declared.slot.SlotKind.TheVariants.{Value, Size}
 use Rattle.relay_translate.specs.declared.watchers.Watchers.{Watchers}
-use Rattle.relay_translate.specs.SlotIndex.{SlotIndex, IsWatched, EachIsWatched, same_kind, watches_by}
+use Rattle.relay_translate.specs.SlotIndex.{SlotIndex, IsWatched, EachIsWatched, same_kind}
+use Rattle.relay_translate.specs.SlotIndex.{watches_by}
 use Rattle.relay_translate.proofs.Keys.{Key, against}
 
 -- ---- the watchers of one pointer

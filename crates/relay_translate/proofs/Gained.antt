@@ -1,5 +1,6 @@
 -- The sessions that a list gains from the index.
-use Rattle.std.proofs.Common.{◌≡◌, ◌<◌, length, arith, ℕ, ◌⊎◌, inl, inr, List, [], ◌∷◌, map, Bool, true, false, not, ◌||◌, refl, sym, ap, ◌∙◌}
+use Rattle.std.proofs.Common.{◌≡◌, ◌<◌, length, arith, ℕ, ◌⊎◌, inl, inr, List, [], ◌∷◌, map, Bool}
+use Rattle.std.proofs.Common.{true, false, not, ◌||◌, refl, sym, ap, ◌∙◌}
 use Rattle.std.specs.List.{list_any}
 use Rattle.std.specs.Cmp.{both_ways}
 use Rattle.std.specs.FinMap as map
@@ -12,7 +13,8 @@ use Rattle.relay_view.specs.declared.slot.SlotKind.TheVariants.{Value, Size}
 use Rattle.relay_translate.specs.Touch.{touch_slot}
 use Rattle.relay_translate.specs.Local.{is_apart}
 use Rattle.relay_translate.specs.Watches.{Watches, slots_of, touches}
-use Rattle.relay_translate.specs.SlotIndex.{SlotIndex, Found, IsWithin, named, IsIndex, Gains, same_kind, same_slot, stands}
+use Rattle.relay_translate.specs.SlotIndex.{SlotIndex, Found, IsWithin, named, IsIndex, Gains}
+use Rattle.relay_translate.specs.SlotIndex.{same_kind, same_slot, stands}
 use Rattle.relay_translate.proofs.Paths.{prefix_length}
 use Rattle.relay_translate.proofs.Near.{near_places, touched_near}
 use Rattle.relay_translate.proofs.Standing.{slots_same}

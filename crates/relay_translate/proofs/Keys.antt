@@ -1,5 +1,6 @@
 -- Look-ups in the index by paths.
-use Rattle.std.proofs.Common.{◌≡◌, List, [], ◌∷◌, Some, Bool, true, false, cond, refl, sym, ap, ◌∙◌, is_eq, Ordering, Less, Equal, Greater, String, Global}
+use Rattle.std.proofs.Common.{◌≡◌, List, [], ◌∷◌, Some, Bool, true, false, cond, refl, sym, ap, ◌∙◌}
+use Rattle.std.proofs.Common.{is_eq, Ordering, Less, Equal, Greater, String, Global}
 use Rattle.std.specs.Ordering.{match_ordering}
 use Rattle.std.specs.Global.{Vec}
 use Rattle.std.specs.Map.{lookup, set_value, remove_entry}

@@ -1,5 +1,6 @@
 -- An act leaves the children of a container that it doesn't touch.
-use Rattle.std.proofs.Common.{◌≡◌, ℕ, ◌<◌, Bool, true, false, Option, Some, None, Ok, refl, subst, bytes_eq, ok_or, arith, nat_le, ◌^◌, ◌-◌, min, option_map}
+use Rattle.std.proofs.Common.{◌≡◌, ℕ, ◌<◌, Bool, true, false, Option, Some, None, Ok, refl, subst}
+use Rattle.std.proofs.Common.{bytes_eq, ok_or, arith, nat_le, ◌^◌, ◌-◌, min, option_map}
 use Rattle.relay_tree.specs.Document.{Document, list, object, Items}
 use Rattle.relay_tree.specs.Part.{item_at, insert_item, drop_item, put_member, drop_member}
 use Rattle.relay_tree.proofs.Elements.{item_at-insert_below, item_at-drop_below}
@@ -8,7 +9,8 @@ use Rattle.relay_pointer.specs.Index.{Token, index_of, number_of}
 use Rattle.relay_pointer.specs.Path.{with_child}
 use Rattle.relay_patch.specs.declared.fault.Cause.TheVariants.{Missing, PastEnd}
 use Rattle.relay_patch.specs.Walk.{then_do, element, step}
-use Rattle.relay_patch.specs.Patch.{Act, insert_element, insert_child, drop_element, drop_child, set_child}
+use Rattle.relay_patch.specs.Patch.{Act, insert_element, insert_child, drop_element, drop_child}
+use Rattle.relay_patch.specs.Patch.{set_child}
 use Rattle.relay_patch.specs.Change.{in_list, in_object}
 use Rattle.relay_patch.proofs.Refusals.{then_ok, ok_or_some}
 use Rattle.relay_patch.proofs.Parts.{step-with_other, at_index, place_in_at_index}

@@ -1,5 +1,6 @@
 -- Operations on slots, from borrowed changes.
-use Rattle.std.proofs.Common.{◌≡◌, ℕ, List, [], ◌∷◌, map, flat_map, Bool, true, false, ◌||◌, Bor, refl, ap}
+use Rattle.std.proofs.Common.{◌≡◌, ℕ, List, [], ◌∷◌, map, flat_map, Bool, true, false, ◌||◌, Bor}
+use Rattle.std.proofs.Common.{refl, ap}
 use Rattle.std.specs.List.{list_any}
 use Rattle.relay_tree.specs.Document.{Document}
 use Rattle.relay_pointer.specs.Index.{index_text}

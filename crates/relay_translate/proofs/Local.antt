@@ -1,5 +1,7 @@
 -- The operations of a translation on each slot.
-use Rattle.std.proofs.Common.{◌≡◌, ◌≢◌, ℕ, suc, zero, ◌+◌, ◌<◌, List, [], ◌∷◌, ◌++◌, map, flat_map, Bool, true, false, ◌&&◌, ◌||◌, Some, refl, sym, ap, ◌∙◌, arith, bytes_eq, slice_get, if◌then◌else◌}
+use Rattle.std.proofs.Common.{◌≡◌, ◌≢◌, ℕ, suc, zero, ◌+◌, ◌<◌, List, [], ◌∷◌, ◌++◌, map, flat_map}
+use Rattle.std.proofs.Common.{Bool, true, false, ◌&&◌, ◌||◌, Some, refl, sym, ap, ◌∙◌, arith}
+use Rattle.std.proofs.Common.{bytes_eq, slice_get, if◌then◌else◌}
 use Rattle.std.proofs.lemmas.List.{append-nil}
 use Rattle.std.proofs.lemmas.List.Elements.{filter-append}
 use Rattle.relay_tree.specs.Document.{Document}
@@ -13,8 +15,10 @@ use Rattle.relay_patch.specs.declared.change.Change.{Change}
 use Rattle.relay_view.specs.View.{View}
 use Rattle.relay_view.specs.declared.slot.Slot.{Slot}
 use Rattle.relay_translate.specs.Touch.{Touch, Apart, Inside, Reset, touch_slot}
-use Rattle.relay_translate.specs.Translate.{is_reset, op_of, in_view, when_inside, slot_op, slot_ops, local_from, local}
-use Rattle.relay_translate.specs.Local.{is_apart, is_inside, all_apart, some_reset, changes_inside, names, on_slot, LeavesApart, FollowsInside, ReplacesReset}
+use Rattle.relay_translate.specs.Translate.{is_reset, op_of, in_view, when_inside, slot_op}
+use Rattle.relay_translate.specs.Translate.{slot_ops, local_from, local}
+use Rattle.relay_translate.specs.Local.{is_apart, is_inside, all_apart, some_reset, changes_inside}
+use Rattle.relay_translate.specs.Local.{names, on_slot, LeavesApart, FollowsInside, ReplacesReset}
 
 -- An operation on one slot names that slot, and no other.
 

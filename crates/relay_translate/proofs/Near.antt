@@ -1,6 +1,7 @@
 -- A change touches a slot only if the slot's pointer is a prefix of a place of the change or begins
 -- with it or, if the place is an item, begins with the path of its list.
-use Rattle.std.proofs.Common.{◌≡◌, ℕ, zero, suc, ◌<◌, ◌⊎◌, inl, inr, [], ◌∷◌, take, length, Bool, true, false, ◌||◌, if◌then◌else◌, refl, bytes_eq, nat_lt, arith}
+use Rattle.std.proofs.Common.{◌≡◌, ℕ, zero, suc, ◌<◌, ◌⊎◌, inl, inr, [], ◌∷◌, take, length, Bool}
+use Rattle.std.proofs.Common.{true, false, ◌||◌, if◌then◌else◌, refl, bytes_eq, nat_lt, arith}
 use Rattle.std.proofs.lemmas.Bool.Decides.{nat_tests}
 use Rattle.relay_tree.specs.Document.{Document}
 use Rattle.relay_pointer.specs.Index.{Token}
@@ -10,7 +11,9 @@ use Rattle.relay_patch.specs.declared.change.Change.{Change}
 use Rattle.relay_patch.specs.declared.change.Change.TheVariants as change
 use Rattle.relay_view.specs.declared.slot.SlotKind.{SlotKind}
 use Rattle.relay_view.specs.declared.slot.SlotKind.TheVariants.{Value, Size}
-use Rattle.relay_translate.specs.Touch.{Touch, Apart, Reset, touch, touch_path, touch_below, touch_place, touch_place_size, touch_either, size_touch, exchange_touch}
+use Rattle.relay_translate.specs.Touch.{Touch, Apart, Reset, touch, touch_path, touch_below}
+use Rattle.relay_translate.specs.Touch.{touch_place, touch_place_size, touch_either, size_touch}
+use Rattle.relay_translate.specs.Touch.{exchange_touch}
 use Rattle.relay_translate.specs.Local.{is_apart}
 use Rattle.relay_translate.specs.SlotIndex.{container, scope, is_above, is_near}
 

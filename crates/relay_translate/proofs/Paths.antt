@@ -1,5 +1,7 @@
 -- The order of paths, and the run of those that begin with one.
-use Rattle.std.proofs.Common.{◌≡◌, ◌≤◌, length, arith, [], ◌∷◌, true, false, ◌&&◌, refl, sym, ap, subst, is_eq, is_gt, Ordering, Less, Equal, Greater, nat_cmp, List, String, Global, string_bytes, Bool, bytes_eq}
+use Rattle.std.proofs.Common.{◌≡◌, ◌≤◌, length, arith, [], ◌∷◌, true, false, ◌&&◌, refl, sym, ap}
+use Rattle.std.proofs.Common.{subst, is_eq, is_gt, Ordering, Less, Equal, Greater, nat_cmp, List}
+use Rattle.std.proofs.Common.{String, Global, string_bytes, Bool, bytes_eq}
 use Rattle.std.specs.Ordering.{ordering_then, ordering_reverse}
 use Rattle.std.specs.Cmp.{tied_itself}
 use Rattle.std.specs.Cmp.Lexicographic.{slice_cmp, nat_list_cmp_total}

@@ -1,7 +1,9 @@
 -- Worked edits and the operations that they become on a view, by computation.
-use Rattle.std.proofs.Common.{◌≡◌, ℕ, List, [], ◌∷◌, map, pos, Result, Ok, Err, refl, codes, Bool, true, false}
+use Rattle.std.proofs.Common.{◌≡◌, ℕ, List, [], ◌∷◌, map, pos, Result, Ok, Err, refl, codes, Bool}
+use Rattle.std.proofs.Common.{true, false}
 use Rattle.std.specs.List.{list_any}
-use Rattle.relay_tree.specs.Document.{Document, null, whole, text, list, object, items_of, no_items, Members, no_members, member}
+use Rattle.relay_tree.specs.Document.{Document, null, whole, text, list, object, items_of, no_items}
+use Rattle.relay_tree.specs.Document.{Members, no_members, member}
 use Rattle.relay_tree.specs.Part.{put_member}
 use Rattle.relay_pointer.specs.Index.{index_of, index_text}
 use Rattle.relay_pointer.specs.Path.{Path}

@@ -1,6 +1,8 @@
 -- The sessions that a list gains from the watchers of one pointer, and from those of a run of
 -- pointers.
-use Rattle.std.proofs.Common.{◌≡◌, ℕ, ◌⊎◌, inl, inr, List, [], ◌∷◌, filter, Some, None, Bool, true, false, not, ◌&&◌, ◌||◌, cond, if◌then◌else◌, refl, sym, ap, subst, ◌∙◌, is_gt, is_le, Ordering, Less, Equal, Greater}
+use Rattle.std.proofs.Common.{◌≡◌, ℕ, ◌⊎◌, inl, inr, List, [], ◌∷◌, filter, Some, None, Bool, true}
+use Rattle.std.proofs.Common.{false, not, ◌&&◌, ◌||◌, cond, if◌then◌else◌, refl, sym, ap, subst}
+use Rattle.std.proofs.Common.{◌∙◌, is_gt, is_le, Ordering, Less, Equal, Greater}
 use Rattle.std.specs.Bool.{⊤}
 use Rattle.std.specs.List.{All, AllByRecursion}
 use Rattle.std.specs.List.Sorted.{IsStrictlySortedBy}
@@ -18,7 +20,8 @@ use Rattle.relay_view.specs.declared.slot.SlotKind.{SlotKind}
 use Rattle.relay_view.specs.declared.slot.SlotKind.TheVariants.{Value, Size}
 use Rattle.relay_translate.specs.declared.watchers.Watchers.{Watchers}
 use Rattle.relay_translate.specs.Watches.{touches}
-use Rattle.relay_translate.specs.SlotIndex.{SlotIndex, named, Gains, stands, watches_by, watchers_at, slot_of, tells}
+use Rattle.relay_translate.specs.SlotIndex.{SlotIndex, named, Gains, stands, watches_by}
+use Rattle.relay_translate.specs.SlotIndex.{watchers_at, slot_of, tells}
 use Rattle.relay_translate.proofs.Paths.{path_cmp, texts_cmp, prefix_first, between_prefix}
 use Rattle.relay_translate.proofs.Keys.{Key, against, at_tokens}
 

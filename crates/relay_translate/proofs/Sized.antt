@@ -1,14 +1,18 @@
 -- A change that is apart from the size of a value leaves the size unchanged.
-use Rattle.std.proofs.Common.{◌≡◌, ℕ, suc, ◌+◌, ◌==◌, List, [], ◌∷◌, length, drop, Bool, true, false, Option, Some, None, Result, Ok, option_map, option_and_then, refl, sym, ap, ◌∙◌, arith, bytes_eq, length-drop, if◌then◌else◌}
+use Rattle.std.proofs.Common.{◌≡◌, ℕ, suc, ◌+◌, ◌==◌, List, [], ◌∷◌, length, drop, Bool, true}
+use Rattle.std.proofs.Common.{false, Option, Some, None, Result, Ok, option_map, option_and_then}
+use Rattle.std.proofs.Common.{refl, sym, ap, ◌∙◌, arith, bytes_eq, length-drop, if◌then◌else◌}
 use Rattle.std.proofs.lemmas.Bool.Decides.{nat_tests}
 use Rattle.std.specs.Result.{result_ok}
-use Rattle.relay_tree.specs.Document.{Document, list, object, Items, item, Members, no_members, member}
+use Rattle.relay_tree.specs.Document.{Document, list, object, Items, item, Members, no_members}
+use Rattle.relay_tree.specs.Document.{member}
 use Rattle.relay_tree.specs.Part.{items_length, put_item, set_member}
 use Rattle.relay_pointer.specs.Index.{Token, index_of}
 use Rattle.relay_pointer.specs.Path.{Path, at, put_element, with_child}
 use Rattle.relay_patch.specs.declared.fault.Cause.{Cause}
 use Rattle.relay_patch.specs.Walk.{walk}
-use Rattle.relay_patch.specs.Patch.{Act, below, at_path, inside, drop_child, insert_child, set_child, replaced}
+use Rattle.relay_patch.specs.Patch.{Act, below, at_path, inside, drop_child, insert_child}
+use Rattle.relay_patch.specs.Patch.{set_child, replaced}
 use Rattle.relay_patch.specs.Change.{Makes, placed, inserted_at}
 use Rattle.relay_patch.specs.declared.change.Change.{Change}
 use Rattle.relay_patch.specs.declared.change.Change.TheVariants as change
@@ -16,8 +20,12 @@ use Rattle.relay_patch.proofs.Walks.{at-walk, at_reached}
 use Rattle.relay_patch.proofs.Inside.{was_inside}
 use Rattle.relay_view.specs.View.{members_length, size, counted, shown}
 use Rattle.relay_view.specs.declared.slot.SlotKind.TheVariants.{Size}
-use Rattle.relay_translate.specs.Touch.{Touch, Apart, Inside, Reset, touch_below, touch_path, touch_either, part_touch, size_touch, exchange_touch, touch_place_size, touch_size}
-use Rattle.relay_translate.proofs.Leaves.{Leaves, set_child_leaves, insert_in_object_leaves, insert_in_list_leaves, drop_in_object_leaves, drop_in_list_leaves}
+use Rattle.relay_translate.specs.Touch.{Touch, Apart, Inside, Reset, touch_below, touch_path}
+use Rattle.relay_translate.specs.Touch.{touch_either, part_touch, size_touch, exchange_touch}
+use Rattle.relay_translate.specs.Touch.{touch_place_size, touch_size}
+use Rattle.relay_translate.proofs.Leaves.{Leaves, set_child_leaves, insert_in_object_leaves}
+use Rattle.relay_translate.proofs.Leaves.{insert_in_list_leaves, drop_in_object_leaves}
+use Rattle.relay_translate.proofs.Leaves.{drop_in_list_leaves}
 use Rattle.relay_translate.proofs.Below.{below_apart, below_inside}
 use Rattle.relay_translate.proofs.Changes.{both_apart}
 

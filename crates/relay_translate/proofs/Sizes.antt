@@ -1,5 +1,7 @@
 -- The sizes of a translation's operations.
-use Rattle.std.proofs.Common.{◌≡◌, ℕ, suc, ◌+◌, List, [], ◌∷◌, ◌++◌, length, Bool, true, false, Result, Ok, Err, refl, if◌then◌else◌, arith, length-drop, flat_map, ◌≤◌, Option, Some, None, option_and_then}
+use Rattle.std.proofs.Common.{◌≡◌, ℕ, suc, ◌+◌, List, [], ◌∷◌, ◌++◌, length, Bool, true, false}
+use Rattle.std.proofs.Common.{Result, Ok, Err, refl, if◌then◌else◌, arith, length-drop, flat_map}
+use Rattle.std.proofs.Common.{◌≤◌, Option, Some, None, option_and_then}
 use Rattle.std.specs.List.{AllByRecursion, list_any}
 use Rattle.std.specs.Result.{result_ok}
 use Rattle.relay_tree.specs.Document.{Document, depth}
@@ -19,7 +21,8 @@ use Rattle.relay_view.specs.declared.slot.Slot.{Slot}
 use Rattle.relay_view.specs.declared.slot.SlotKind.{SlotKind}
 use Rattle.relay_view.proofs.Depths.{shown_depth}
 use Rattle.relay_translate.specs.Touch.{Touch, Inside, touch_slot, touch_place}
-use Rattle.relay_translate.specs.Translate.{is_reset, op_of, move_op, with_paths, in_slot, when_inside, slot_op, slot_ops, local_from}
+use Rattle.relay_translate.specs.Translate.{is_reset, op_of, move_op, with_paths, in_slot}
+use Rattle.relay_translate.specs.Translate.{when_inside, slot_op, slot_ops, local_from}
 use Rattle.relay_translate.specs.Sizes.{FitsWithChanges}
 
 All-append : (n m : ℕ) (a b : List Op) → AllByRecursion (OpFits n m) a

@@ -1,5 +1,6 @@
 -- The operations of a translation lead a view, slot by slot, to the view of the present document.
-use Rattle.std.proofs.Common.{◌≡◌, ℕ, suc, List, [], ◌∷◌, ◌++◌, length, drop, Bool, true, false, Some, Ok, option_and_then, refl, sym, ap, subst, ◌∙◌, flat_map}
+use Rattle.std.proofs.Common.{◌≡◌, ℕ, suc, List, [], ◌∷◌, ◌++◌, length, drop, Bool, true, false}
+use Rattle.std.proofs.Common.{Some, Ok, option_and_then, refl, sym, ap, subst, ◌∙◌, flat_map}
 use Rattle.std.specs.List.{list_any}
 use Rattle.std.specs.Result.{result_ok}
 use Rattle.relay_tree.specs.Document.{Document, list, Items, no_items, item}
@@ -20,8 +21,11 @@ use Rattle.relay_view.specs.View.{View, shown, slot, slot_of, slots, view}
 use Rattle.relay_view.specs.declared.slot.Slot.{Slot}
 use Rattle.relay_view.specs.declared.slot.SlotKind.{SlotKind}
 use Rattle.relay_view.specs.declared.slot.SlotKind.TheVariants.{Value, Size}
-use Rattle.relay_translate.specs.Touch.{Touch, Apart, Inside, Reset, touch_value, touch_size, touch, touch_slot}
-use Rattle.relay_translate.specs.Translate.{is_reset, op_of, with_paths, first, in_slot, when_inside, slot_op, slot_ops, local_from, local, IsTranslation}
+use Rattle.relay_translate.specs.Touch.{Touch, Apart, Inside, Reset, touch_value, touch_size, touch}
+use Rattle.relay_translate.specs.Touch.{touch_slot}
+use Rattle.relay_translate.specs.Translate.{is_reset, op_of, with_paths, first, in_slot}
+use Rattle.relay_translate.specs.Translate.{when_inside, slot_op, slot_ops, local_from, local}
+use Rattle.relay_translate.specs.Translate.{IsTranslation}
 use Rattle.relay_translate.proofs.Bounds.{within_free}
 use Rattle.relay_translate.proofs.Under.{IsElement, effect_under, with_paths-twice, deeper}
 use Rattle.relay_translate.proofs.Changes.{ChangedInside, change_apart, change_inside}

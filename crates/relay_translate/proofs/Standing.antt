@@ -1,5 +1,6 @@
 -- The slots that stand in an index, after one path's watchers changed.
-use Rattle.std.proofs.Common.{◌≡◌, ℕ, ◌==◌, List, [], ◌∷◌, Option, Some, None, Bool, true, false, not, ◌&&◌, ◌||◌, refl, sym, ap, ◌∙◌, String, Global}
+use Rattle.std.proofs.Common.{◌≡◌, ℕ, ◌==◌, List, [], ◌∷◌, Option, Some, None, Bool, true, false}
+use Rattle.std.proofs.Common.{not, ◌&&◌, ◌||◌, refl, sym, ap, ◌∙◌, String, Global}
 use Rattle.std.specs.List.{list_any}
 use Rattle.std.specs.Option.{option_map_or}
 use Rattle.std.specs.Map.{lookup, set_value, remove_entry}
@@ -10,8 +11,11 @@ use Rattle.relay_view.specs.declared.slot.Slot.{Slot}
 use Rattle.relay_view.specs.declared.slot.SlotKind.{SlotKind}
 use Rattle.relay_view.specs.declared.slot.SlotKind.TheVariants.{Value, Size}
 use Rattle.relay_translate.specs.declared.watchers.Watchers.{Watchers}
-use Rattle.relay_translate.specs.SlotIndex.{SlotIndex, same_kind, same_slot, watches_by, watchers_at, stands, Joins, Leaves, IsSameIndex, slot_of}
-use Rattle.relay_translate.proofs.Keys.{Key, against, at_tokens, written_other, written_same, removed_other, inserted_other}
+use Rattle.relay_translate.specs.SlotIndex.{SlotIndex, same_kind, same_slot, watches_by}
+use Rattle.relay_translate.specs.SlotIndex.{watchers_at, stands, Joins, Leaves, IsSameIndex}
+use Rattle.relay_translate.specs.SlotIndex.{slot_of}
+use Rattle.relay_translate.proofs.Keys.{Key, against, at_tokens, written_other, written_same}
+use Rattle.relay_translate.proofs.Keys.{removed_other, inserted_other}
 
 -- the session has a slot of the kind among these watchers, if there are any
 abbrev pub watches_in : Option Watchers → SlotKind → ℕ → Bool

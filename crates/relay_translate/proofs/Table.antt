@@ -1,5 +1,6 @@
 -- The table and the recursion agree.
-use Rattle.std.proofs.Common.{◌≡◌, ℕ, List, [], ◌∷◌, Bool, true, false, ◌&&◌, refl, sym, bytes_eq, length, drop, ap, ◌∙◌, nat_le, Option, Some, if◌then◌else◌}
+use Rattle.std.proofs.Common.{◌≡◌, ℕ, List, [], ◌∷◌, Bool, true, false, ◌&&◌, refl, sym, bytes_eq}
+use Rattle.std.proofs.Common.{length, drop, ap, ◌∙◌, nat_le, Option, Some, if◌then◌else◌}
 use Rattle.std.proofs.lemmas.Slice.Eq.{bytes_eq-Decides}
 use Rattle.relay_pointer.specs.Index.{Token, number_of}
 use Rattle.relay_pointer.specs.Path.{Path, is_prefix, is_proper_prefix}
@@ -9,8 +10,11 @@ use Rattle.relay_patch.specs.declared.change.Change.{Change}
 use Rattle.relay_patch.specs.declared.change.Change.TheVariants as change
 use Rattle.relay_view.specs.declared.slot.SlotKind.{SlotKind}
 use Rattle.relay_view.specs.declared.slot.SlotKind.TheVariants.{Value, Size}
-use Rattle.relay_translate.specs.Touch.{Touch, Apart, Inside, Reset, shifts, touch_below, touch_path, touch_value, part_touch, size_touch, exchange_touch, touch_place_size, touch_size, touch}
-use Rattle.relay_translate.specs.Table.{next_index, not_inside, table_at, touch_value_by_table, size_by_table, touch_size_by_table, touch_by_table, IsTable}
+use Rattle.relay_translate.specs.Touch.{Touch, Apart, Inside, Reset, shifts, touch_below}
+use Rattle.relay_translate.specs.Touch.{touch_path, touch_value, part_touch, size_touch}
+use Rattle.relay_translate.specs.Touch.{exchange_touch, touch_place_size, touch_size, touch}
+use Rattle.relay_translate.specs.Table.{next_index, not_inside, table_at, touch_value_by_table}
+use Rattle.relay_translate.specs.Table.{size_by_table, touch_size_by_table, touch_by_table, IsTable}
 use Rattle.relay_pointer.proofs.Prefixes.{and_false}
 
 bytes_eq-swap : (a b : List ℕ) (x : Bool) → bytes_eq a b ≡ x → bytes_eq b a ≡ x

@@ -1,5 +1,6 @@
 -- An operation on an element of a list, with the element's index in front of its paths.
-use Rattle.std.proofs.Common.{◌≡◌, ℕ, suc, [], ◌∷◌, Bool, true, false, Some, Ok, refl, ap, subst, if◌then◌else◌}
+use Rattle.std.proofs.Common.{◌≡◌, ℕ, suc, [], ◌∷◌, Bool, true, false, Some, Ok, refl, ap, subst}
+use Rattle.std.proofs.Common.{if◌then◌else◌}
 use Rattle.std.specs.Bool.{⊤}
 use Rattle.relay_tree.specs.Document.{Document, list, Items, item}
 use Rattle.relay_tree.specs.Part.{item_at, put_item}

@@ -7,7 +7,8 @@ use Rattle.relay_patch.specs.declared.change.Change.{Change}
 use Rattle.relay_view.specs.View.{View}
 use Rattle.relay_view.specs.declared.slot.Slot.{Slot}
 use Rattle.relay_translate.specs.Touch.{Touch, Apart, Inside, Reset, touch_slot}
-use Rattle.relay_translate.specs.Translate.{in_view, op_of, is_reset, when_inside, slot_op, local_from}
+use Rattle.relay_translate.specs.Translate.{in_view, op_of, is_reset, when_inside, slot_op}
+use Rattle.relay_translate.specs.Translate.{local_from}
 use Rattle.relay_translate.specs.Local.{is_apart, some_reset}
 use Rattle.relay_translate.specs.Watches.{touches, is_touched}
 

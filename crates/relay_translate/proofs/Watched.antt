@@ -1,5 +1,7 @@
 -- The views of sessions, and the slots that stand for them in the index.
-use Rattle.std.proofs.Common.{subst, ◌≡◌, ◌≤◌, length, ℕ, ◌==◌, zero, suc, List, [], ◌∷◌, take, Option, Some, None, Bool, true, false, not, ◌&&◌, ◌||◌, cond, refl, sym, ap, ◌∙◌, arith, nat_cmp}
+use Rattle.std.proofs.Common.{subst, ◌≡◌, ◌≤◌, length, ℕ, ◌==◌, zero, suc, List, [], ◌∷◌, take}
+use Rattle.std.proofs.Common.{Option, Some, None, Bool, true, false, not, ◌&&◌, ◌||◌, cond, refl}
+use Rattle.std.proofs.Common.{sym, ap, ◌∙◌, arith, nat_cmp}
 use Rattle.std.specs.List.{list_any}
 use Rattle.std.specs.Ordering.{eq_by_cmp}
 use Rattle.std.specs.Cmp.{nat_cmp_total, unsigned_ties, eq_by_cmp_equiv}
@@ -7,7 +9,8 @@ use Rattle.std.specs.BTreeMap as tree
 use Rattle.std.specs.BTreeMap.{BTreeMap, Updates, is_at}
 use Rattle.std.specs.Map.{lookup}
 use Rattle.std.specs.FinMap as fin
-use Rattle.std.specs.FinMap.{find, get-from_entries, get-insert, get-remove, get-empty, same_map, nat_cmp-IsAntisymmetric}
+use Rattle.std.specs.FinMap.{find, get-from_entries, get-insert, get-remove, get-empty, same_map}
+use Rattle.std.specs.FinMap.{nat_cmp-IsAntisymmetric}
 use Rattle.std.proofs.lemmas.Bool.Decides.{nat_tests}
 use Rattle.relay_view.specs.View.{View}
 use Rattle.std.specs.Option.{option_map_or}
@@ -17,7 +20,8 @@ use Rattle.relay_translate.specs.Watches.{Watches, slots_of}
 use Rattle.relay_translate.proofs.Keys.{Key}
 use Rattle.relay_translate.proofs.Standing.{slots_same}
 use Rattle.relay_view.specs.declared.slot.Slot.{Slot}
-use Rattle.relay_translate.specs.SlotIndex.{SlotIndex, IsIndex, IsWithin, AreWithin, Joins, Leaves, same_slot, watches_by, watches_of}
+use Rattle.relay_translate.specs.SlotIndex.{SlotIndex, IsIndex, IsWithin, AreWithin, Joins, Leaves}
+use Rattle.relay_translate.specs.SlotIndex.{same_slot, watches_by, watches_of}
 
 -- ---- the map
 

@@ -1,5 +1,6 @@
 -- The weight of a translation's operations, change by change.
-use Rattle.std.proofs.Common.{◌≡◌, ℕ, ◌+◌, List, [], ◌∷◌, ◌++◌, suc, ◌<◌, length, drop, get_or, map, flat_map, Bor, Some, None, refl, sym, ◌∙◌, arith}
+use Rattle.std.proofs.Common.{◌≡◌, ℕ, ◌+◌, List, [], ◌∷◌, ◌++◌, suc, ◌<◌, length, drop, get_or, map}
+use Rattle.std.proofs.Common.{flat_map, Bor, Some, None, refl, sym, ◌∙◌, arith}
 use Rattle.std.proofs.lemmas.List.{drop_more}
 use Rattle.relay_tree.specs.Budget.{paid}
 use Rattle.relay_tree.specs.Document.{Document}

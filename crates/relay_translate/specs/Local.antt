@@ -1,6 +1,7 @@
 -- The operations of a translation on each slot: none if no change touches it, one for each change
 -- inside its value, or one replacement if a change reset it.
-use Rattle.std.specs.Prelude.{◌≡◌, ℕ, List, [], ◌∷◌, map, Bool, true, false, ◌||◌, Some, bytes_eq, slice_get}
+use Rattle.std.specs.Prelude.{◌≡◌, ℕ, List, [], ◌∷◌, map, Bool, true, false, ◌||◌, Some, bytes_eq}
+use Rattle.std.specs.Prelude.{slice_get}
 use Rattle.std.specs.List.{filter, list_all, list_any}
 use Rattle.relay_tree.specs.Document.{Document}
 use Rattle.relay_pointer.specs.Index.{index_text}

@@ -1,5 +1,6 @@
 -- Which sessions watch each pointer, and which pointers lie near a change.
-use Rattle.std.specs.Prelude.{◌≡◌, ℕ, nat_eq, zero, suc, ◌==◌, ◌≤◌, List, [], ◌∷◌, length, take, String, Bool, true, false, not, ◌&&◌, ◌||◌, ◌⊎◌, Option}
+use Rattle.std.specs.Prelude.{◌≡◌, ℕ, nat_eq, zero, suc, ◌==◌, ◌≤◌, List, [], ◌∷◌, length, take}
+use Rattle.std.specs.Prelude.{String, Bool, true, false, not, ◌&&◌, ◌||◌, ◌⊎◌, Option}
 use Rattle.std.specs.List.{All, list_any}
 use Rattle.std.specs.Option.{option_map_or}
 use Rattle.std.specs.Ordering.{nat_cmp}

@@ -1,6 +1,7 @@
 -- The touch of a place, as a table whose first matching line decides (docs/PROTOCOL.md, "What a
 -- change means to a slot").
-use Rattle.std.specs.Prelude.{◌≡◌, ℕ, [], ◌∷◌, length, drop, Bool, true, false, Option, None, if◌then◌else◌}
+use Rattle.std.specs.Prelude.{◌≡◌, ℕ, [], ◌∷◌, length, drop, Bool, true, false, Option, None}
+use Rattle.std.specs.Prelude.{if◌then◌else◌}
 use Rattle.relay_pointer.specs.Index.{Token, number_of}
 use Rattle.relay_pointer.specs.Path.{Path, is_prefix, is_proper_prefix}
 use Rattle.relay_patch.specs.declared.change.Place.{Place}
@@ -9,7 +10,8 @@ use Rattle.relay_patch.specs.declared.change.Change.{Change}
 use Rattle.relay_patch.specs.declared.change.Change.TheVariants as change
 use Rattle.relay_view.specs.declared.slot.SlotKind.{SlotKind}
 use Rattle.relay_view.specs.declared.slot.SlotKind.TheVariants.{Value, Size}
-use Rattle.relay_translate.specs.Touch.{Touch, Apart, Inside, Reset, shifts, touch_place, touch_either, part_touch}
+use Rattle.relay_translate.specs.Touch.{Touch, Apart, Inside, Reset, shifts, touch_place}
+use Rattle.relay_translate.specs.Touch.{touch_either, part_touch}
 
 -- the index that the first token spells, if any
 abbrev pub next_index : Path → Option ℕ

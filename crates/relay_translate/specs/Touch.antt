@@ -1,5 +1,6 @@
 -- The touch of a change on what a slot shows, decided by paths alone.
-use Rattle.std.specs.Prelude.{ℕ, ◌+◌, ◌==◌, [], ◌∷◌, length, Bool, true, false, Option, Some, None, if◌then◌else◌, nat_le, bytes_eq}
+use Rattle.std.specs.Prelude.{ℕ, ◌+◌, ◌==◌, [], ◌∷◌, length, Bool, true, false, Option, Some, None}
+use Rattle.std.specs.Prelude.{if◌then◌else◌, nat_le, bytes_eq}
 use Rattle.relay_pointer.specs.Index.{Token, number_of}
 use Rattle.relay_pointer.specs.Path.{Path}
 use Rattle.relay_patch.specs.declared.change.Place.{Place}

@@ -1,5 +1,6 @@
 -- The operations that bring a view up to date, slot by slot.
-use Rattle.std.specs.Prelude.{ℕ, suc, List, [], ◌∷◌, ◌++◌, length, drop, Bool, true, false, Option, option_map, if◌then◌else◌, flat_map, ◌≡◌, Ok}
+use Rattle.std.specs.Prelude.{ℕ, suc, List, [], ◌∷◌, ◌++◌, length, drop, Bool, true, false, Option}
+use Rattle.std.specs.Prelude.{option_map, if◌then◌else◌, flat_map, ◌≡◌, Ok}
 use Rattle.std.specs.List.{list_any}
 use Rattle.relay_tree.specs.Budget.{paid}
 use Rattle.relay_tree.specs.declared.budget.Budget.{Budget}

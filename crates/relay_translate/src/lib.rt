@@ -4,10 +4,10 @@
 //!
 //! The promise: for every document from which the changes lead to the new one, its view, patched
 //! with the result of [`translate`], is the view of the new document. A slot that no change touches
-//! costs no operation, and a change inside a slot's value costs one operation. A slot is sent anew
-//! only if a change reset it: its pointer may now lead to another value, or its size may have
-//! changed. A [`WatchIndex`] finds the sessions whose views the changes touch without checking
-//! every view.
+//! has no operation. One that a change reset is replaced by one operation: its pointer may now lead
+//! to another value, or its size may have changed. In any other slot, each change inside its value
+//! is one operation. A [`WatchIndex`] finds the sessions whose views the changes touch without
+//! checking every view.
 #![tactic(auto)]
 
 mod kind;

@@ -5,7 +5,8 @@ ghost use Rattle.std.specs.Prelude.{◌≡◌, ◌||◌, ℕ, true, take, OnOk};
 ghost use Rattle.std.specs.Ordering.{nat_cmp};
 ghost use Rattle.std.specs.BTreeSet.{contains};
 ghost use Rattle.relay_pointer.specs.Path.{path_of, same_path, is_prefix};
-ghost use Rattle.relay_translate.specs.SlotIndex.{Gains, IsWithin, container, is_near, named, scope, slot_of, tells};
+ghost use Rattle.relay_translate.specs.SlotIndex.{Gains, IsWithin, container, is_near, named};
+ghost use Rattle.relay_translate.specs.SlotIndex.{scope, slot_of, tells};
 ghost use Rattle.relay_translate.specs.Watches.{touches};
 
 use crate::kind::Touch;

@@ -3,7 +3,8 @@
 ghost use Rattle.std.specs.Prelude.{◌≡◌, ℕ, [], ◌∷◌, take, option_copied, OnOk, OnErr};
 ghost use Rattle.std.specs.List.{list_any};
 ghost use Rattle.relay_pointer.specs.Path.{path_of};
-ghost use Rattle.relay_translate.specs.SlotIndex.{EachIsWatched, Joins, Leaves, IsSameIndex, same_slot, watchers_at};
+ghost use Rattle.relay_translate.specs.SlotIndex.{EachIsWatched, Joins, Leaves, IsSameIndex};
+ghost use Rattle.relay_translate.specs.SlotIndex.{same_slot, watchers_at};
 
 use crate::watchers::Watchers;
 use relay_pointer::{copy_tokens, same_path};

@@ -1,7 +1,9 @@
 //! The touch of a change on a slot, decided by paths alone: no document is read.
 ghost use Rattle.std.specs.Prelude.{◌≡◌};
 ghost use Rattle.relay_pointer.specs.Path.{path_of};
-ghost use Rattle.relay_translate.specs.Touch.{exchange_touch, size_touch, touch, touch_either, touch_last, touch_path, touch_place, touch_size, touch_value};
+ghost use Rattle.relay_translate.specs.Touch.{exchange_touch, size_touch, touch, touch_either};
+ghost use Rattle.relay_translate.specs.Touch.{touch_last, touch_path, touch_place, touch_size};
+ghost use Rattle.relay_translate.specs.Touch.{touch_value};
 ghost use Rattle.relay_translate.specs.Table.{touch_by_table};
 
 use crate::kind::Touch;

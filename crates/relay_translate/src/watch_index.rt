@@ -7,7 +7,8 @@
 ghost use Rattle.std.specs.Prelude.{◌≡◌, ℕ, map as each, IfOk, OnOk, OnErr};
 ghost use Rattle.std.specs.List.Sorted.{IsStrictlyIncreasing};
 ghost use Rattle.std.specs.FinMap as map;
-ghost use Rattle.relay_translate.specs.SlotIndex.{AreWithin, EachIsWatched, Found, IsIndex, IsWithin, Leaves, named, watches_of};
+ghost use Rattle.relay_translate.specs.SlotIndex.{AreWithin, EachIsWatched, Found, IsIndex};
+ghost use Rattle.relay_translate.specs.SlotIndex.{IsWithin, Leaves, named, watches_of};
 ghost use Rattle.relay_translate.specs.Watches.{is_touched, slots_of};
 
 use crate::nearby::add_touched;

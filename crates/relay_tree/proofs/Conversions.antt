@@ -1,10 +1,13 @@
 -- A turn of the grammar's loops under the conversion of what it read: a value, a list's next
 -- element, an object's next member.
-use Rattle.std.proofs.Common.{◌≡◌, ℕ, zero, suc, ◌-◌, ◌<◌, ◌≤◌, List, [], ◌∷◌, length, Option, Some, None, option_map, option_and_then, refl, ap, ◌∙◌, sym, arith}
+use Rattle.std.proofs.Common.{◌≡◌, ℕ, zero, suc, ◌-◌, ◌<◌, ◌≤◌, List, [], ◌∷◌, length, Option, Some}
+use Rattle.std.proofs.Common.{None, option_map, option_and_then, refl, ap, ◌∙◌, sym, arith}
 use Rattle.json.specs.Token.{Token}
 use Rattle.json.specs.Json as json
-use Rattle.json.specs.Json.{Parse, parse_map, after_end_array, read_key, items_step, members_step, items, members, if_last}
-use Rattle.json.proofs.Grammar.{items_end, items_more, items_fail, members_end, members_no_key, members_more, members_fail}
+use Rattle.json.specs.Json.{Parse, parse_map, after_end_array, read_key, items_step, members_step}
+use Rattle.json.specs.Json.{items, members, if_last}
+use Rattle.json.proofs.Grammar.{items_end, items_more, items_fail, members_end, members_no_key}
+use Rattle.json.proofs.Grammar.{members_more, members_fail}
 use Rattle.serde_json.specs.Data.{Data, array, object, no_items, item, Members, no_members, put}
 use Rattle.serde_json.specs.Read.{of_json, of_items, of_members, converted}
 

@@ -1,5 +1,7 @@
 -- Elements that are read one by one: those already read, followed by those that are left.
-use Rattle.std.proofs.Common.{◌≡◌, ℕ, suc, ◌+◌, ◌<◌, ◌≤◌, List, [], ◌∷◌, ◌++◌, length, Result, Ok, Err, refl, ap, add-one, append_assoc, Option, Some, None, Bool, true, false, nat_lt, if◌then◌else◌, arith, IfOk, IfErr}
+use Rattle.std.proofs.Common.{◌≡◌, ℕ, suc, ◌+◌, ◌<◌, ◌≤◌, List, [], ◌∷◌, ◌++◌, length, Result, Ok}
+use Rattle.std.proofs.Common.{Err, refl, ap, add-one, append_assoc, Option, Some, None, Bool, true}
+use Rattle.std.proofs.Common.{false, nat_lt, if◌then◌else◌, arith, IfOk, IfErr}
 use Rattle.relay_tree.specs.Document.{Document, Items, no_items, item}
 use Rattle.relay_tree.specs.Each.{onto, each_from}
 use Rattle.relay_tree.proofs.Outcomes.{if_err}

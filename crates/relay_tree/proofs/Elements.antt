@@ -1,6 +1,7 @@
 -- The elements of a list's queue compared with the items that they represent, and items after a
 -- change.
-use Rattle.std.proofs.Common.{◌≡◌, ◌≢◌, ℕ, zero, suc, ◌<◌, ◌≤◌, List, [], ◌∷◌, length, Option, Some, None, option_map, refl, sym, ap, arith, slice_get, slice_set}
+use Rattle.std.proofs.Common.{◌≡◌, ◌≢◌, ℕ, zero, suc, ◌<◌, ◌≤◌, List, [], ◌∷◌, length, Option, Some}
+use Rattle.std.proofs.Common.{None, option_map, refl, sym, ap, arith, slice_get, slice_set}
 use Rattle.std.specs.List.{insert, remove}
 use Rattle.relay_tree.specs.Document.{Document, Items, no_items, item, items_of}
 use Rattle.relay_tree.specs.Part.{items_length, item_at, put_item, insert_item, drop_item}

@@ -1,8 +1,10 @@
 -- The equality test is true exactly if the documents are the same tree.
-use Rattle.std.proofs.Common.{◌≡◌, Bool, true, false, ◌&&◌, ◌||◌, refl, sym, ap, ap₂, ◌∙◌, bytes_eq, Decides}
+use Rattle.std.proofs.Common.{◌≡◌, Bool, true, false, ◌&&◌, ◌||◌, refl, sym, ap, ap₂, ◌∙◌, bytes_eq}
+use Rattle.std.proofs.Common.{Decides}
 use Rattle.std.proofs.lemmas.Bool.Decides.{Decides-int_eq}
 use Rattle.std.proofs.lemmas.Slice.Eq.{bytes_eq-Decides}
-use Rattle.relay_tree.specs.Document.{Document, null, truth, whole, text, list, object, Items, no_items, item, Members, no_members, member}
+use Rattle.relay_tree.specs.Document.{Document, null, truth, whole, text, list, object, Items}
+use Rattle.relay_tree.specs.Document.{no_items, item, Members, no_members, member}
 use Rattle.relay_tree.specs.Same.{same, items_same, members_same, bool_same}
 
 -- both sides of a conjunction

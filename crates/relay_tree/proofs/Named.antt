@@ -1,5 +1,8 @@
 -- A map's entries compared with the members that they represent, and members after a change.
-use Rattle.std.proofs.Common.{◌≡◌, ℕ, suc, length, List, [], ◌∷◌, ◌++◌, Bool, true, false, Option, Some, None, option_map, is_some, cond, if◌then◌else◌, String, Global, Ordering, Less, Equal, Greater, is_eq, string_bytes, string_cmp, nat_cmp, bytes_eq, refl, sym, ap, subst, ◌∙◌}
+use Rattle.std.proofs.Common.{◌≡◌, ℕ, suc, length, List, [], ◌∷◌, ◌++◌, Bool, true, false, Option}
+use Rattle.std.proofs.Common.{Some, None, option_map, is_some, cond, if◌then◌else◌, String, Global}
+use Rattle.std.proofs.Common.{Ordering, Less, Equal, Greater, is_eq, string_bytes, string_cmp}
+use Rattle.std.proofs.Common.{nat_cmp, bytes_eq, refl, sym, ap, subst, ◌∙◌}
 use Rattle.std.proofs.lemmas.Cmp.{nat_list_cmp_total}
 use Rattle.std.proofs.lemmas.Map.Text.{is_eq-slice_cmp}
 use Rattle.std.specs.Cmp.Lexicographic.{slice_cmp}
@@ -9,7 +12,8 @@ use Rattle.std.specs.Map.{keys_of, lookup, set_value, remove_entry}
 use Rattle.std.specs.Ordering.{match_ordering, ordering_reverse}
 use Rattle.std.specs.BTreeMap.{is_at, insert_entry}
 use Rattle.relay_tree.specs.Document.{Document, Members, no_members, member}
-use Rattle.relay_tree.specs.Part.{member_at, set_member, add_member, put_member, drop_member, members_length, AreAbove, IsOrdered}
+use Rattle.relay_tree.specs.Part.{member_at, set_member, add_member, put_member, drop_member}
+use Rattle.relay_tree.specs.Part.{members_length, AreAbove, IsOrdered}
 use Rattle.relay_tree.specs.Seen.{members_of}
 use Rattle.relay_tree.proofs.Names.{equal_bytes, bytes_eq-slice_cmp, equal_names, bytes_same}
 

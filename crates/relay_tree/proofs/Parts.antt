@@ -1,5 +1,7 @@
 -- A node's parts compared with those of its document.
-use Rattle.std.proofs.Common.{◌≡◌, ℕ, ◌<◌, ◌≤◌, length, get_or, Bor, MutBor, arith, List, Option, Some, None, Global, String, OnSome, refl, sym, slice_get, option_copied, is_some, IfSome, nat_lt, bytes_eq, false}
+use Rattle.std.proofs.Common.{◌≡◌, ℕ, ◌<◌, ◌≤◌, length, get_or, Bor, MutBor, arith, List, Option}
+use Rattle.std.proofs.Common.{Some, None, Global, String, OnSome, refl, sym, slice_get}
+use Rattle.std.proofs.Common.{option_copied, is_some, IfSome, nat_lt, bytes_eq, false}
 use Rattle.std.specs.Option.{option_copied_mut}
 use Rattle.std.specs.declared.vec.Vec.{Vec}
 use Rattle.std.proofs.lemmas.Option.{slice_get_past, slice_get_read}

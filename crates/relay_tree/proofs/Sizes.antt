@@ -1,10 +1,16 @@
 -- The depth and the weight of elements and members, also after a change.
-use Rattle.std.proofs.Common.{◌≡◌, ℕ, zero, suc, ◌+◌, ◌≤◌, max, List, length, Bool, true, false, Option, Some, None, option_map, refl, sym, ap, subst, ◌∙◌, bytes_eq, is_eq, nat_cmp, Ordering, Less, Equal, Greater, if◌then◌else◌, is_some, arith}
+use Rattle.std.proofs.Common.{◌≡◌, ℕ, zero, suc, ◌+◌, ◌≤◌, max, List, length, Bool, true, false}
+use Rattle.std.proofs.Common.{Option, Some, None, option_map, refl, sym, ap, subst, ◌∙◌, bytes_eq}
+use Rattle.std.proofs.Common.{is_eq, nat_cmp, Ordering, Less, Equal, Greater, if◌then◌else◌}
+use Rattle.std.proofs.Common.{is_some, arith}
 use Rattle.std.specs.Ordering.{match_ordering}
 use Rattle.std.specs.Cmp.Lexicographic.{slice_cmp}
 use Rattle.std.proofs.lemmas.Map.Text.{is_eq-slice_cmp}
-use Rattle.relay_tree.specs.Document.{Document, null, Items, no_items, item, Members, no_members, member, depth, items_depth, members_depth, weight, items_weight, members_weight}
-use Rattle.relay_tree.specs.Part.{item_at, put_item, insert_item, drop_item, member_at, set_member, add_member, put_member, drop_member}
+use Rattle.relay_tree.specs.Document.{Document, null, Items, no_items, item, Members, no_members}
+use Rattle.relay_tree.specs.Document.{member, depth, items_depth, members_depth, weight}
+use Rattle.relay_tree.specs.Document.{items_weight, members_weight}
+use Rattle.relay_tree.specs.Part.{item_at, put_item, insert_item, drop_item, member_at, set_member}
+use Rattle.relay_tree.specs.Part.{add_member, put_member, drop_member}
 use Rattle.relay_tree.proofs.Names.{bytes_same, equal_bytes}
 
 pub item_depth : (ds : Items) (i : ℕ) (c : Document) → item_at ds i ≡ Some c

@@ -1,5 +1,6 @@
 -- Counts: the whole numbers from 0 to 2^53 - 1.
-use Rattle.std.specs.Prelude.{ℕ, pos, Bool, List, Option, Some, None, option_and_then, nat_le, if◌then◌else◌}
+use Rattle.std.specs.Prelude.{ℕ, pos, Bool, List, Option, Some, None, option_and_then, nat_le}
+use Rattle.std.specs.Prelude.{if◌then◌else◌}
 use Rattle.relay_tree.specs.Document.{Document, whole}
 use Rattle.relay_tree.specs.Part.{object_member}
 use Rattle.relay_limits.specs.declared.TheConstants.{MAX_COUNT}

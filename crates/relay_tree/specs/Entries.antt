@@ -1,5 +1,6 @@
 -- Members as their names and values, in the byte order of the names.
-use Rattle.std.specs.Prelude.{ℕ, ◌+◌, ◌/◌, List, Option, String, string_bytes, string_cmp, length, nat_lt, if◌then◌else◌}
+use Rattle.std.specs.Prelude.{ℕ, ◌+◌, ◌/◌, List, Option, String, string_bytes, string_cmp, length}
+use Rattle.std.specs.Prelude.{nat_lt, if◌then◌else◌}
 use Rattle.std.specs.List.Sorted.{IsStrictlySortedBy}
 use Rattle.std.specs.Map.{keys_of, lookup, set_value}
 use Rattle.std.specs.BTreeMap.{is_at, insert_entry}
@@ -37,6 +38,6 @@ refilled_entries capacity name value es =
     if nat_lt (length es) capacity then insert_entry string_cmp es name value else es
 
 -- the capacity with place for one more than `len` members: the present one if it suffices, else a
--- quarter above `len`
+-- quarter above `len`, and one
 abbrev pub grown_capacity : ℕ → ℕ → ℕ
 grown_capacity len capacity = if nat_lt len capacity then capacity else len + (len / 4 + 1)

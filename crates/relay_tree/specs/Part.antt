@@ -1,9 +1,11 @@
 -- The parts of a document, one level down: the elements of a list and the members of an object.
-use Rattle.std.specs.Prelude.{◌≡◌, ℕ, zero, suc, List, Option, Some, None, option_map, is_some, bytes_eq, if◌then◌else◌, ⊤}
+use Rattle.std.specs.Prelude.{◌≡◌, ℕ, zero, suc, List, Option, Some, None, option_map, is_some}
+use Rattle.std.specs.Prelude.{bytes_eq, if◌then◌else◌, ⊤}
 use Rattle.std.specs.declared.cmp.Ordering.TheVariants.{Less}
 use Rattle.std.specs.Ordering.{nat_cmp, match_ordering}
 use Rattle.std.specs.Cmp.Lexicographic.{slice_cmp}
-use Rattle.relay_tree.specs.Document.{Document, text, list, object, Items, no_items, item, Members, no_members, member}
+use Rattle.relay_tree.specs.Document.{Document, text, list, object, Items, no_items, item, Members}
+use Rattle.relay_tree.specs.Document.{no_members, member}
 
 -- Elements.
 

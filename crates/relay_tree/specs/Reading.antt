@@ -1,6 +1,7 @@
 -- What has been read of a text beside what `serde_json` reads there. A value in which a number is
 -- not whole is read on, and is `None`.
-use Rattle.std.specs.Prelude.{◌≡◌, ℤ, ℕ, List, [], ◌∷◌, ◌++◌, map, Option, Some, option_map, option_and_then, String, string_bytes, ⊤}
+use Rattle.std.specs.Prelude.{◌≡◌, ℤ, ℕ, List, [], ◌∷◌, ◌++◌, map, Option, Some, option_map}
+use Rattle.std.specs.Prelude.{option_and_then, String, string_bytes, ⊤}
 use Rattle.std.specs.declared.alloc.Global.{Global}
 use Rattle.serde_json.specs.Find.{as_i64}
 use Rattle.serde_json.specs.Read.{number_of}

@@ -1,7 +1,8 @@
 -- Equality of documents (RFC 6902, section 4.6), as a Boolean function.
 use Rattle.std.specs.Prelude.{Bool, true, false, not, ◌&&◌, bytes_eq}
 use Rattle.std.specs.Ordering.{int_eq}
-use Rattle.relay_tree.specs.Document.{Document, null, truth, whole, text, list, object, Items, no_items, item, Members, no_members, member}
+use Rattle.relay_tree.specs.Document.{Document, null, truth, whole, text, list, object, Items}
+use Rattle.relay_tree.specs.Document.{no_items, item, Members, no_members, member}
 
 abbrev pub bool_same : Bool → Bool → Bool
 bool_same true b = b

@@ -6,7 +6,8 @@ use Rattle.serde_json.specs.Data as json_data
 use Rattle.serde_json.specs.Find.{of_integer, as_i64}
 use Rattle.serde_json.specs.Read as json
 use Rattle.serde_json.specs.Written.{outline, compact_text}
-use Rattle.relay_tree.specs.Document.{Document, null, truth, whole, text, list, object, Items, no_items, item, Members, no_members, member}
+use Rattle.relay_tree.specs.Document.{Document, null, truth, whole, text, list, object, Items}
+use Rattle.relay_tree.specs.Document.{no_items, item, Members, no_members, member}
 
 abbrev mutual
   pub data_of : Document → json_data.Data

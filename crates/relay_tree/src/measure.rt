@@ -1,6 +1,7 @@
 //! The depth and the weight of a tree. Measuring either walks the whole tree and allocates nothing.
 ghost use Rattle.std.specs.Prelude.{◌≡◌, min, ◌-◌, ◌^◌};
-ghost use Rattle.relay_tree.specs.Document.{depth, weight, items_of, items_depth, members_depth, items_weight, members_weight, saturated};
+ghost use Rattle.relay_tree.specs.Document.{depth, weight, items_of, items_depth, members_depth};
+ghost use Rattle.relay_tree.specs.Document.{items_weight, members_weight, saturated};
 ghost use Rattle.relay_tree.specs.Seen.{members_of};
 
 use crate::element::{Element, iter_items};

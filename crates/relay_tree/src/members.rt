@@ -57,7 +57,9 @@ impl Model for Members {
 }
 
 impl Members {
-    ghost use Rattle.std.specs.Prelude.{◌≡◌, ◌<◌, ◌≤◌, [], length, string_bytes, string_cmp, IsOk, IfNone, IfOk, OnOk, OnErr, option_copied, is_some, if◌then◌else◌};
+    ghost use Rattle.std.specs.Prelude.{◌≡◌, ◌<◌, ◌≤◌, [], length, string_bytes, string_cmp, IsOk};
+    ghost use Rattle.std.specs.Prelude.{IfNone, IfOk, OnOk, OnErr, option_copied, is_some};
+    ghost use Rattle.std.specs.Prelude.{if◌then◌else◌};
     ghost use Rattle.std.specs.Borrow.{LendsSo, sem};
     ghost use Rattle.std.specs.BTreeMap.{is_at, insert_entry};
     ghost use Rattle.std.specs.Map.{remove_entry};
@@ -66,7 +68,8 @@ impl Members {
     ghost use Rattle.relay_tree.specs.contracts.tree.Tree as tree;
     ghost use Rattle.std.specs.List.Sorted.{IsSearchInRange};
     ghost use Rattle.std_collections.specs.Layout.BTreeMap.{seek};
-    ghost use Rattle.relay_tree.specs.Entries.{compared, grown_capacity, order_to, refilled_entries, value_at, with_value, IsAscending};
+    ghost use Rattle.relay_tree.specs.Entries.{compared, grown_capacity, order_to};
+    ghost use Rattle.relay_tree.specs.Entries.{refilled_entries, value_at, with_value, IsAscending};
 
     /// Returns no members. Allocates nothing.
     ///
@@ -174,8 +177,8 @@ impl Members {
         }
     }
 
-    /// Makes place for one more: for a quarter more than there are, so that an insertion is cheap
-    /// on average. If memory runs out, the members are unchanged.
+    /// If there is no place for one more, makes it: for a quarter more than there are, and one, so
+    /// that an insertion is cheap on average. If memory runs out, the members are unchanged.
     ///
     /// ```
     /// let mut members = Members::new(alloc);

@@ -1,4 +1,5 @@
-//! The numbers of JSON that a tree has: those that are whole and fit in 64 bits with a sign.
+//! The numbers of JSON that a tree has: those that are written without fraction or exponent and fit
+//! in 64 bits with a sign, but for `-0`.
 ghost use Rattle.std.specs.Prelude.{◌≡◌, ◌<◌, ◌==◌, true, false, length, slice_index, IsTrue};
 ghost use Rattle.std.specs.Option.{option_map};
 ghost use Rattle.serde_json.specs.Find.{as_i64};

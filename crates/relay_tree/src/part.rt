@@ -1,9 +1,11 @@
 //! The parts of a tree one level down, which one token of a path can name.
-ghost use Rattle.std.specs.Prelude.{◌≡◌, ◌<◌, ◌^◌, ℕ, List as list_of, None, false, bytes_eq, IfSome, OnSome, option_copied};
+ghost use Rattle.std.specs.Prelude.{◌≡◌, ◌<◌, ◌^◌, ℕ, List as list_of, None, false, bytes_eq};
+ghost use Rattle.std.specs.Prelude.{IfSome, OnSome, option_copied};
 ghost use Rattle.std.specs.Option.{option_map, option_copied_mut};
 ghost use Rattle.std.specs.Borrow.{LendsIf, sem};
 ghost use Rattle.relay_tree.specs.Document.{Members as members_type, null, object};
-ghost use Rattle.relay_tree.specs.Part.{list_len, members_len, list_item, object_member, text_in, with_member, IsOrdered};
+ghost use Rattle.relay_tree.specs.Part.{list_len, members_len, list_item, object_member, text_in};
+ghost use Rattle.relay_tree.specs.Part.{with_member, IsOrdered};
 ghost use Rattle.relay_tree.specs.Seen.{document_of};
 ghost use Rattle.relay_tree.specs.Rows.{list_row, map_row, node_items, node_members};
 ghost use Rattle.relay_tree.specs.declared.tree.Node.TheVariants as kind;

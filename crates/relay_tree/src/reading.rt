@@ -11,9 +11,11 @@ ghost use Rattle.serde_json.specs.Read as json;
 ghost use Rattle.serde_json.specs.Read.{of_json, of_items, of_members, converted};
 ghost use Rattle.relay_tree.specs.Document.{items_of, list, object};
 ghost use Rattle.relay_tree.specs.Seen.{members_of};
-ghost use Rattle.relay_tree.specs.Text.{tree_of_text, IsNumberFault, tree_of, items_tree, members_tree};
+ghost use Rattle.relay_tree.specs.Text.{tree_of_text, IsNumberFault, tree_of, items_tree};
+ghost use Rattle.relay_tree.specs.Text.{members_tree};
 ghost use Rattle.relay_tree.specs.Reading.{extended};
-ghost use Rattle.relay_tree.specs.declared.reading.TreeFault.TheVariants.{NotJson, Number, NoMemory};
+ghost use Rattle.relay_tree.specs.declared.reading.TreeFault.TheVariants.{NotJson, Number};
+ghost use Rattle.relay_tree.specs.declared.reading.TreeFault.TheVariants.{NoMemory};
 
 use crate::element::Element;
 use crate::members::Members;

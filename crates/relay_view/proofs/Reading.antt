@@ -1,5 +1,6 @@
 -- A list within the limit is read element by element; one past it is refused unread.
-use Rattle.std.proofs.Common.{◌≡◌, ◌<◌, ◌≤◌, List, length, true, false, nat_le, nat_lt, Err, refl, arith}
+use Rattle.std.proofs.Common.{◌≡◌, ◌<◌, ◌≤◌, List, length, true, false, nat_le, nat_lt, Err, refl}
+use Rattle.std.proofs.Common.{arith}
 use Rattle.std.proofs.lemmas.Bool.Decides.{nat_tests}
 use Rattle.relay_tree.specs.Document.{Document, list, items_of}
 use Rattle.relay_tree.specs.Each.{each_from}

@@ -1,5 +1,6 @@
 -- The view that a document reads as, or its first fault.
-use Rattle.std.specs.Prelude.{ℕ, List, Bool, false, length, codes, Option, Some, None, Result, Ok, Err, nat_le, nat_lt, if◌then◌else◌}
+use Rattle.std.specs.Prelude.{ℕ, List, Bool, false, length, codes, Option, Some, None, Result, Ok}
+use Rattle.std.specs.Prelude.{Err, nat_le, nat_lt, if◌then◌else◌}
 use Rattle.relay_tree.specs.Document.{Document, text, list, object}
 use Rattle.relay_tree.specs.Each.{each_from}
 use Rattle.relay_tree.specs.Part.{items_length, object_member}

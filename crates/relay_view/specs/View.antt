@@ -1,6 +1,8 @@
 -- A view: for each of its slots, the value at a pointer, or the size of that value.
-use Rattle.std.specs.Prelude.{ℕ, suc, ◌-◌, ◌^◌, min, pos, List, [], ◌∷◌, Option, Some, None, option_map, option_and_then}
-use Rattle.relay_tree.specs.Document.{Document, whole, list, object, Items, no_items, item, Members, no_members, member}
+use Rattle.std.specs.Prelude.{ℕ, suc, ◌-◌, ◌^◌, min, pos, List, [], ◌∷◌, Option, Some, None}
+use Rattle.std.specs.Prelude.{option_map, option_and_then}
+use Rattle.relay_tree.specs.Document.{Document, whole, list, object, Items, no_items, item, Members}
+use Rattle.relay_tree.specs.Document.{no_members, member}
 use Rattle.relay_tree.specs.Part.{items_length}
 use Rattle.relay_pointer.specs.Path.{at}
 pub use Rattle.relay_view.specs.declared.slot.Slot.{Slot}

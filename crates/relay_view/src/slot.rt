@@ -1,5 +1,6 @@
 //! A slot of a view: a pointer, and what is shown of the value at it.
-ghost use Rattle.std.specs.Prelude.{◌≡◌, ◌-◌, ◌^◌, ◌++◌, min, pos, option_map, option_and_then, IfOk, OnOk};
+ghost use Rattle.std.specs.Prelude.{◌≡◌, ◌-◌, ◌^◌, ◌++◌, min, pos, option_map, option_and_then};
+ghost use Rattle.std.specs.Prelude.{IfOk, OnOk};
 ghost use Rattle.relay_tree.specs.Budget.{paid};
 ghost use Rattle.relay_tree.specs.Document.{weight};
 ghost use Rattle.relay_tree.specs.Text.{tokens_of, ReadsBack};

@@ -5,7 +5,7 @@ use crate::slot::{Slot, SlotKind};
 use relay_pointer::Pointer;
 use std::marker::Model;
 
-/// The most slots of a view.
+/// The most slots that [`View::read`] accepts.
 pub const MAX_SLOTS: u64 = 16;
 
 /// A list of slots, each of which shows a value in a document, or its size. Contracts see it as

@@ -1,7 +1,8 @@
 //! The path and the query behind `/rooms/`, and the pointer that the query names.
 ghost use Rattle.std.specs.Prelude.{◌≡◌, IfOk, option_copied, option_map, string_bytes};
 ghost use Rattle.percent_encoding.specs.Percent.{percent_decode};
-ghost use Rattle.relay_admin.specs.Query.{path_of, query_of, begins_hex, has_whole_escapes, unescaped, only_one, pointer_in};
+ghost use Rattle.relay_admin.specs.Query.{path_of, query_of, begins_hex, has_whole_escapes};
+ghost use Rattle.relay_admin.specs.Query.{unescaped, only_one, pointer_in};
 
 use crate::cut::{behind, cut};
 use percent_encoding::percent_decode;

@@ -5,7 +5,8 @@ ghost use Rattle.json.specs.Token.{key, string};
 ghost use Rattle.relay_tree.specs.Document.{object, no_members};
 ghost use Rattle.relay_tree.specs.Text.{tokens_of, ReadsBack};
 ghost use Rattle.relay_pointer.specs.Spelling.{spelling};
-ghost use Rattle.relay_patch.specs.Form.{patch_document, op_members, op_member, path_member, from_member, value_member};
+ghost use Rattle.relay_patch.specs.Form.{patch_document, op_members, op_member, path_member};
+ghost use Rattle.relay_patch.specs.Form.{from_member, value_member};
 
 use crate::op::Op;
 use crate::patch::Patch;

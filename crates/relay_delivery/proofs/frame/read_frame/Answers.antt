@@ -1,5 +1,6 @@
 use Rattle.std.proofs.Common.{◌<◌, ◌^◌, length, arith, Err, ap}
-use Rattle.relay_delivery.proofs.Frames.{takes_text, never_partial, refuses_text, takes_bytes, short}
+use Rattle.relay_delivery.proofs.Frames.{takes_text, never_partial, refuses_text, takes_bytes}
+use Rattle.relay_delivery.proofs.Frames.{short}
 use Rattle.relay_delivery.proofs.frame.read_frame.Goals as goal
 
 pub returns-in-Ok-Complete-clause-progress : goal.returns-in-Ok-Complete-clause-progress

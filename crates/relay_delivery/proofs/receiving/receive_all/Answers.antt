@@ -1,6 +1,7 @@
 use Rattle.std.proofs.Common.{◌≡◌, ◌-◌, ◌<◌, length, take, drop, ◌∙◌, ap, arith, length-drop}
 use Rattle.relay_delivery.proofs.Parts.{part_is, put_length, put_from}
-use Rattle.relay_delivery.proofs.Progress.{heard_all, heard_next, stops_next, hears_more, hears_no_more}
+use Rattle.relay_delivery.proofs.Progress.{heard_all, heard_next, stops_next, hears_more}
+use Rattle.relay_delivery.proofs.Progress.{hears_no_more}
 use Rattle.relay_delivery.proofs.receiving.receive_all.Goals as goal
 
 pub returns-then-start-frames : goal.returns-then-start-frames

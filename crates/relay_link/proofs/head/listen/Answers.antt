@@ -1,6 +1,7 @@
 -- The room and the access are those that the head asks for: the bytes received before, and those
 -- that the read took.
-use Rattle.std.proofs.Common.{rules, ◌≡◌, ◌≤◌, ℕ, List, true, false, length, take, string_bytes, Some, sym, ap, is_err, ◌∙◌, subst}
+use Rattle.std.proofs.Common.{rules, ◌≡◌, ◌≤◌, ℕ, List, true, false, length, take, string_bytes}
+use Rattle.std.proofs.Common.{Some, sym, ap, is_err, ◌∙◌, subst}
 use Rattle.std.specs.Io.KnownBytes.{Consumes}
 use Rattle.relay_access.specs.declared.access.Access.{Access}
 use Rattle.relay_link.specs.Asks.{Asks, Receives}

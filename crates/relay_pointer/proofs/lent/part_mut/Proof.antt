@@ -1,6 +1,8 @@
 -- `part_mut` walks down a path, proved by a manual walk of its MIR. The lender's way to the current
 -- node is composed, one turn at a time (`follows_then` of `denote.Follow`).
-use Rattle.std.proofs.Common.{◌≡◌, ℕ, zero, suc, ◌+◌, ◌-◌, ◌^◌, ◌<◌, ◌≤◌, Option, Some, None, List, [], ◌∷◌, ◌++◌, length, get_or, take, refl, sym, ap, ◌∙◌, lit<, nltb→le, w64, Bor, MutBor, arith, ltb→lt, OnSome}
+use Rattle.std.proofs.Common.{◌≡◌, ℕ, zero, suc, ◌+◌, ◌-◌, ◌^◌, ◌<◌, ◌≤◌, Option, Some, None, List}
+use Rattle.std.proofs.Common.{[], ◌∷◌, ◌++◌, length, get_or, take, refl, sym, ap, ◌∙◌, lit<}
+use Rattle.std.proofs.Common.{nltb→le, w64, Bor, MutBor, arith, ltb→lt, OnSome}
 use Rattle.std.proofs.raw_atomic.Walks.{proved}
 use seplogic.Ra.Ura.{Ura}
 use mathlib.Core.WellFounded.InvImage
@@ -16,11 +18,16 @@ use prog.Memory.{Memory}
 use prog.Routine.{Routine}
 use prog.Wp.{Env, Out, Wp, WpFn, Tables, at_return, after_seq, after_block, after_turn}
 use types.Logic.{Logic, sem}
-use types.Kit.{Item, Goal, Seq, Sq, any_q, runs, lands, settles, ‵, raw, ◌⊛◌, some, later, at_ret, ◌$◌, ◌∵◌, !, qed, by, move, keep, drop, use0, use1, use2, split, split3, join, group, pick, await, rewrite, regoal, fsplit, fjoin, fpick, fpack, feq_l, feq_i, suffices, frame, done}
+use types.Kit.{Item, Goal, Seq, Sq, any_q, runs, lands, settles, ‵, raw, ◌⊛◌, some, later, at_ret}
+use types.Kit.{◌$◌, ◌∵◌, !, qed, by, move, keep, drop, use0, use1, use2, split, split3, join, group}
+use types.Kit.{pick, await, rewrite, regoal, fsplit, fjoin, fpick, fpack, feq_l, feq_i, suffices}
+use types.Kit.{frame, done}
 use types.Part.{whole as all_of, agg}
 use types.Match.{live, vrt, in_variant}
-use types.Run.{stop, fld, addr, of_opd, bin, lit, no_more, and_then, first, blocks, branches, skips, jumps, switches_on, exec, returns, returns_within, enter, loops, again, Below}
-use types.ByLocal.{alloc_all, pass_all, free_all, look_at, get, get_in, get_tag, through, sets, sets_last, lands_as, lands_last, holding, forget_but, take_at, give_at, env}
+use types.Run.{stop, fld, addr, of_opd, bin, lit, no_more, and_then, first, blocks, branches, skips}
+use types.Run.{jumps, switches_on, exec, returns, returns_within, enter, loops, again, Below}
+use types.ByLocal.{alloc_all, pass_all, free_all, look_at, get, get_in, get_tag, through, sets}
+use types.ByLocal.{sets_last, lands_as, lands_last, holding, forget_but, take_at, give_at, env}
 use sound.WpLaws.{fm_of}
 use contract.Monad.{Fun, fact, fact_i}
 use contract.Running.{tables, tables_of}
@@ -52,7 +59,8 @@ use Rattle.relay_pointer.specs.Path.{child, with_child, at, put}
 use Rattle.relay_pointer.specs.Lending.{LendsChild}
 use Rattle.relay_pointer.specs.contracts.pointer.Pointer.{the_row as P}
 use Rattle.relay_pointer.proofs.pointer.Pointer.TheLaws.{the_row_laws}
-use Rattle.relay_pointer.proofs.Reaching.{Reached, front_length, front_token, starts, steps, missing, ends}
+use Rattle.relay_pointer.proofs.Reaching.{Reached, front_length, front_token, starts, steps}
+use Rattle.relay_pointer.proofs.Reaching.{missing, ends}
 use Rattle.relay_pointer.specs.contracts.lent.part_mut as f
 use Rattle.relay_pointer.proofs.lent.part_mut.Statement.{statement}
 use Rattle.relay_pointer.proofs.lent.part_mut.Code as code

@@ -1,4 +1,5 @@
-use Rattle.std.proofs.Common.{◌≡◌, ◌≢◌, None, ◌∷◌, [], List, ℕ, ◌==◌, Bool, true, false, refl, arith}
+use Rattle.std.proofs.Common.{◌≡◌, ◌≢◌, None, ◌∷◌, [], List, ℕ, ◌==◌, Bool, true, false, refl}
+use Rattle.std.proofs.Common.{arith}
 use Rattle.std.proofs.lemmas.Bool.Decides.{nat_tests}
 use Rattle.relay_pointer.specs.Spelling.{begins_escape, after_tilde}
 use Rattle.relay_pointer.proofs.reading.escape.Goals as goal

@@ -1,7 +1,8 @@
 use Rattle.std.proofs.Common.{◌≡◌, None, refl, ◌∙◌}
 use Rattle.relay_tree.specs.Part.{list_len}
 use Rattle.relay_tree.specs.Seen.{document_of}
-use Rattle.relay_pointer.proofs.Walks.{child-number, with_child-number, child-member, with_child-member, was_list, was_other}
+use Rattle.relay_pointer.proofs.Walks.{child-number, with_child-number, child-member}
+use Rattle.relay_pointer.proofs.Walks.{with_child-member, was_list, was_other}
 use Rattle.relay_pointer.proofs.walk.child_mut.Goals as goal
 
 pub returns-then-is_none : goal.returns-then-is_none

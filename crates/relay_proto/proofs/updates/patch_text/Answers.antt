@@ -1,4 +1,5 @@
-use Rattle.std.proofs.Common.{◌≡◌, ◌<◌, ◌^◌, [], ◌∷◌, ◌++◌, length, string_bytes, codes, decimal, Result, Ok, Err, IfOk, ap, ◌∙◌, arith, rules}
+use Rattle.std.proofs.Common.{◌≡◌, ◌<◌, ◌^◌, [], ◌∷◌, ◌++◌, length, string_bytes, codes, decimal}
+use Rattle.std.proofs.Common.{Result, Ok, Err, IfOk, ap, ◌∙◌, arith, rules}
 use Rattle.json.specs.Print.{print}
 use Rattle.json.specs.Token.{end_object, key, number}
 use Rattle.relay_tree.specs.Text.{text_of, tokens_of}

@@ -1,5 +1,6 @@
 -- One more line was answered, or a fault stopped the run.
-use Rattle.std.proofs.Common.{◌≤◌, ℕ, List, [], ◌∷◌, ◌++◌, length, ◌≡◌, true, refl, rules, arith, length-append, string_bytes, vec_len}
+use Rattle.std.proofs.Common.{◌≤◌, ℕ, List, [], ◌∷◌, ◌++◌, length, ◌≡◌, true, refl, rules, arith}
+use Rattle.std.proofs.Common.{length-append, string_bytes, vec_len}
 use Rattle.std.proofs.lemmas.List.Elements.{All-nil, All-push}
 use Rattle.std.proofs.lemmas.Result.{err_from_is_err_and}
 use Rattle.std.proofs.KnownBytes.{Appends-trans, Appends-nil}
@@ -7,7 +8,10 @@ use Rattle.relay_script.specs.declared.input.TheConstants.{MAX_LINE}
 use Rattle.relay_script.specs.declared.run.TheConstants.{MAX_LINES}
 use Rattle.relay_script.specs.Lines.{TakesLine}
 use Rattle.relay_script.specs.Respond.{start, AreWithin}
-use Rattle.relay_script.proofs.RunLemmas.{step_at, TakesLines-start, TakesLines-more, TakesLines-kept, AnswersSome-whole, AnswersSome-cut, Stops-reading, Stops-input, Stops-no_memory, Stops-too_many, Stops-more}
+use Rattle.relay_script.proofs.RunLemmas.{step_at, TakesLines-start, TakesLines-more}
+use Rattle.relay_script.proofs.RunLemmas.{TakesLines-kept, AnswersSome-whole, AnswersSome-cut}
+use Rattle.relay_script.proofs.RunLemmas.{Stops-reading, Stops-input, Stops-no_memory}
+use Rattle.relay_script.proofs.RunLemmas.{Stops-too_many, Stops-more}
 use Rattle.relay_script.proofs.run.run_lines.Goals as goal
 
 pub loop-before-init : goal.loop-before-init

@@ -1,5 +1,6 @@
 -- The end of the program without a job.
-use Rattle.std.proofs.Common.{◌≡◌, ℕ, refl, sym, subst, List, Option, Result, Ok, Err, OnOk, OnErr, IfErr}
+use Rattle.std.proofs.Common.{◌≡◌, ℕ, refl, sym, subst, List, Option, Result, Ok, Err, OnOk, OnErr}
+use Rattle.std.proofs.Common.{IfErr}
 use Rattle.std.specs.Io.KnownBytes.{Appends}
 use Rattle.relay_options.specs.declared.job.Stop.{Stop}
 use Rattle.relay_server.specs.Jobs.{StopEnds, Shows, status_of}
@@ -35,11 +36,12 @@ returns-in-Help g c =
     let old = g.W.Write.contents c.args.writer.now in
     let wrote = c.write_whole.ensures in
     at_stop _ _ _ _ _ c.in-Help.is
-    (shows _ _ _ c.write_whole.result old _ c.as_bytes.ensures.value c.report.ensures.status wrote.ok
-    wrote.err wrote.fault)
+    (shows _ _ _ c.write_whole.result old _ c.as_bytes.ensures.value c.report.ensures.status
+    wrote.ok wrote.err wrote.fault)
 
 pub returns-in-Misuse : goal.returns-in-Misuse
 returns-in-Misuse g c = at_stop _ _ _ _ _ c.in-Misuse.is (refl, refl)
 
 pub returns-in-NoMemory : goal.returns-in-NoMemory
-returns-in-NoMemory g c = at_stop _ _ _ _ _ c.in-NoMemory.is (c.report-in-NoMemory.ensures.status, refl)
+returns-in-NoMemory g c =
+    at_stop _ _ _ _ _ c.in-NoMemory.is (c.report-in-NoMemory.ensures.status, refl)

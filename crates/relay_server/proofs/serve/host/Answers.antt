@@ -1,7 +1,8 @@
 -- The output is a prefix of both lines: a part of the first, or all of it and a part of the second.
 use Rattle.std.proofs.lemmas.Result.{err_from_is_err_and}
 use Rattle.relay_server.specs.Printed.{listening_text, turns_text}
-use Rattle.relay_server.proofs.ServeLemmas.{headline_after, headline_begun, part_front, then_all, then_part}
+use Rattle.relay_server.proofs.ServeLemmas.{headline_after, headline_begun, part_front, then_all}
+use Rattle.relay_server.proofs.ServeLemmas.{then_part}
 use Rattle.relay_server.proofs.serve.host.Goals as goal
 
 pub returns-in_err-tell-clause-stopped : goal.returns-in_err-tell-clause-stopped

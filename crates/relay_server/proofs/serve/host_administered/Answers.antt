@@ -2,7 +2,8 @@
 use Rattle.std.proofs.Common.{◌≡◌}
 use Rattle.std.proofs.lemmas.Result.{err_from_is_err_and}
 use Rattle.relay_event_loop.specs.Connections.{made_by, made_after}
-use Rattle.relay_server.proofs.ServeLemmas.{front_made, headline_after, headline_begun, then_all_made, then_part_made}
+use Rattle.relay_server.proofs.ServeLemmas.{front_made, headline_after, headline_begun}
+use Rattle.relay_server.proofs.ServeLemmas.{then_all_made, then_part_made}
 use Rattle.relay_server.proofs.serve.host_administered.Goals as goal
 
 pub returns-in_err-tell-clause-stopped : goal.returns-in_err-tell-clause-stopped

@@ -3,7 +3,8 @@ use Rattle.std.proofs.Common.{◌≡◌, ◌∙◌, ◌<◌, [], ◌∷◌, ◌+
 use Rattle.std.proofs.lemmas.List.Elements.{All-from_get_or}
 use Rattle.matchit.specs.Seek.{first}
 use Rattle.matchit.proofs.OnLiterals.{matchit_on_literals}
-use Rattle.relay_shake.proofs.Routes.{plain, room_route, found, found-true, found-false, has_segment_after, seek-row, missed, taken, only_memory}
+use Rattle.relay_shake.proofs.Routes.{plain, room_route, found, found-true, found-false}
+use Rattle.relay_shake.proofs.Routes.{has_segment_after, seek-row, missed, taken, only_memory}
 use Rattle.relay_shake.proofs.route.routed.Goals as goal
 
 pub alloc_error-requires : goal.alloc_error-requires

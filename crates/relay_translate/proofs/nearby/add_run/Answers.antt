@@ -2,7 +2,8 @@ use Rattle.std.proofs.Common.{◌≡◌, ◌∙◌, false, refl, sym, ap, subst,
 use Rattle.std.specs.List.{starts_with}
 use Rattle.relay_pointer.specs.Path.{path_of, is_prefix}
 use Rattle.relay_pointer.proofs.Prefixes.{starts_with-is_prefix}
-use Rattle.relay_translate.proofs.Runs.{Told, Walked, walk_begins, walked_more, walked_all, walked_end}
+use Rattle.relay_translate.proofs.Runs.{Told, Walked, walk_begins, walked_more, walked_all}
+use Rattle.relay_translate.proofs.Runs.{walked_end}
 use Rattle.relay_translate.proofs.nearby.add_run.Goals as goal
 
 pub loop-pointer-init : goal.loop-pointer-init

@@ -4,7 +4,8 @@ use Rattle.std.proofs.lemmas.Result.{on_ok_weaker, on_err_weaker}
 use Rattle.relay_translate.specs.SlotIndex.{SlotIndex, same_kind}
 use Rattle.relay_translate.proofs.Keys.{against}
 use Rattle.relay_translate.proofs.Standing.{joins_written, same_written, joins_inserted}
-use Rattle.relay_translate.proofs.EachWatched.{joined_watches, insert_watches, found_watches, each_same, each_written, each_inserted}
+use Rattle.relay_translate.proofs.EachWatched.{joined_watches, insert_watches, found_watches}
+use Rattle.relay_translate.proofs.EachWatched.{each_same, each_written, each_inserted}
 use Rattle.relay_translate.proofs.slot_index.enter_slot.Goals as goal
 
 pub returns-in-Some-clause-ok : goal.returns-in-Some-clause-ok

@@ -1,7 +1,8 @@
 use Rattle.std.proofs.Common.{sym, subst, ◌∷◌, []}
 use Rattle.relay_translate.specs.SlotIndex.{EachIsWatched, Leaves}
 use Rattle.std.proofs.lemmas.Bool.Decides.{when_true, when_false}
-use Rattle.relay_translate.proofs.Standing.{leaves_written, leaves_removed, leaves_nobody, new_written}
+use Rattle.relay_translate.proofs.Standing.{leaves_written, leaves_removed, leaves_nobody}
+use Rattle.relay_translate.proofs.Standing.{new_written}
 use Rattle.relay_translate.proofs.EachWatched.{each_written, each_removed}
 use Rattle.relay_translate.proofs.slot_index.leave_slot.Goals as goal
 

@@ -1,4 +1,5 @@
-use Rattle.std.proofs.Common.{ℕ, ◌+◌, List, ◌++◌, map, drop, flat_map, refl, sym, ap, ◌∙◌, append_assoc}
+use Rattle.std.proofs.Common.{ℕ, ◌+◌, List, ◌++◌, map, drop, flat_map, refl, sym, ap, ◌∙◌}
+use Rattle.std.proofs.Common.{append_assoc}
 use Rattle.relay_patch.specs.declared.op.Op.{Op}
 use Rattle.relay_translate.specs.Translate.{slot_op}
 use Rattle.relay_translate.proofs.Weights.{further_changes, paid_further, paid_no_further}

@@ -1,4 +1,5 @@
-use Rattle.std.proofs.Common.{◌++◌, ◌+◌, Bor, map, drop, refl, sym, ap, ◌∙◌, append_assoc, option_map}
+use Rattle.std.proofs.Common.{◌++◌, ◌+◌, Bor, map, drop, refl, sym, ap, ◌∙◌, append_assoc}
+use Rattle.std.proofs.Common.{option_map}
 use Rattle.relay_patch.specs.declared.change.Change.{Change}
 use Rattle.relay_translate.specs.Translate.{local, local_from, slot_ops}
 use Rattle.relay_translate.proofs.Weights.{further_ops, paid_further, paid_no_further}

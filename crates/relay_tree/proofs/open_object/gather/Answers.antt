@@ -1,8 +1,10 @@
-use Rattle.std.proofs.Common.{◌≡◌, [], ◌∷◌, ◌++◌, Some, string_cmp, sym, ap, ◌∙◌, subst, append_assoc, append-nil}
+use Rattle.std.proofs.Common.{◌≡◌, [], ◌∷◌, ◌++◌, Some, string_cmp, sym, ap, ◌∙◌, subst}
+use Rattle.std.proofs.Common.{append_assoc, append-nil}
 use Rattle.std.specs.List.Sorted.{IsStrictlySortedBy}
 use Rattle.std.specs.Map.{keys_of}
 use Rattle.relay_tree.specs.Reading.{AreRead}
-use Rattle.relay_tree.proofs.ReadLemmas.{Read, EachRead, none_left, members_read, no_members_read, read_last, insert_last}
+use Rattle.relay_tree.proofs.ReadLemmas.{Read, EachRead, none_left, members_read, no_members_read}
+use Rattle.relay_tree.proofs.ReadLemmas.{read_last, insert_last}
 use Rattle.relay_tree.proofs.open_object.gather.Goals as goal
 
 pub returns-in_default : goal.returns-in_default

@@ -1,4 +1,5 @@
-use Rattle.std.proofs.Common.{◌≡◌, ◌-◌, ◌<◌, [], ◌∷◌, ◌++◌, length, Some, None, Err, option_map, string_bytes, refl, sym, ap, ap₂, ◌∙◌, arith, rules}
+use Rattle.std.proofs.Common.{◌≡◌, ◌-◌, ◌<◌, [], ◌∷◌, ◌++◌, length, Some, None, Err, option_map}
+use Rattle.std.proofs.Common.{string_bytes, refl, sym, ap, ap₂, ◌∙◌, arith, rules}
 use Rattle.json.specs.Json.{parse_map, items, members, value}
 use Rattle.json.specs.Reads.{token_of}
 use Rattle.json.proofs.Grammar.{value_is, value-begin_array, value-begin_object, read_key-shorter}
@@ -8,8 +9,11 @@ use Rattle.serde_json.specs.Read.{of_json, of_members, converted}
 use Rattle.relay_tree.specs.Document.{list, object, items_of, whole}
 use Rattle.relay_tree.specs.Seen.{members_of}
 use Rattle.relay_tree.specs.Reading.{extended, members_read}
-use Rattle.relay_tree.proofs.Conversions.{map_twice, converted_array, converted_object, item_turn, item_fault, items_over, member_turn, member_fault, key_fault, members_over}
-use Rattle.relay_tree.proofs.ReadLemmas.{same_fault, none_left, number_read, no_number_read, before, trees_of-last, one_more, items_tree-before, put_read}
+use Rattle.relay_tree.proofs.Conversions.{map_twice, converted_array, converted_object, item_turn}
+use Rattle.relay_tree.proofs.Conversions.{item_fault, items_over, member_turn, member_fault}
+use Rattle.relay_tree.proofs.Conversions.{key_fault, members_over}
+use Rattle.relay_tree.proofs.ReadLemmas.{same_fault, none_left, number_read, no_number_read, before}
+use Rattle.relay_tree.proofs.ReadLemmas.{trees_of-last, one_more, items_tree-before, put_read}
 use Rattle.relay_tree.proofs.reading.+read.Goals as goal
 
 -- One value.
@@ -42,7 +46,8 @@ read_tree-returns-in-Some-Some-clause-ok t c =
     let number =
     number_read c.in-Number.text.now c.next.new.self (Some c.in-Some-Some.whole)
     (sym (c.in-Some-Some.is ∙ ap Some c.in-Some-Some.field-0-is) ∙ c.whole_number.ensures) in
-    let seen : Some (whole c.in-Some-Some.whole) ≡ Some c.from-in-Some-Some.result = search rules in (
+    let seen : Some (whole c.in-Some-Some.whole) ≡ Some c.from-in-Some-Some.result =
+    search rules in (
       number.0,
       ap (converted of_json) (ap (value c.args.depth) is ∙ value_is c.args.depth _)
           ∙ number.1,

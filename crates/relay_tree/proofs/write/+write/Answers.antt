@@ -1,4 +1,5 @@
-use Rattle.std.proofs.Common.{◌≡◌, [], ◌∷◌, ◌++◌, string_bytes, sym, ap, ◌∙◌, subst, append_assoc, append-nil, arith, rules}
+use Rattle.std.proofs.Common.{◌≡◌, [], ◌∷◌, ◌++◌, string_bytes, sym, ap, ◌∙◌, subst, append_assoc}
+use Rattle.std.proofs.Common.{append-nil, arith, rules}
 use Rattle.std.proofs.lemmas.List.{nil_from_length}
 use Rattle.std.proofs.lemmas.Result.{on_ok_weaker}
 use Rattle.json.specs.Token.{begin_array, begin_object, key}
@@ -8,7 +9,8 @@ use Rattle.relay_tree.specs.Text.{ReadsBack}
 use Rattle.relay_tree.proofs.Named.{Entry}
 use Rattle.relay_tree.proofs.Texts.{whole_back, list_back, object_back}
 use Rattle.relay_tree.proofs.Weights.{item_weighs, member_weighs}
-use Rattle.relay_tree.proofs.Writing.{WritesEach, WritesMembers, writes_more, list_ends, writes_member, object_ends}
+use Rattle.relay_tree.proofs.Writing.{WritesEach, WritesMembers, writes_more, list_ends}
+use Rattle.relay_tree.proofs.Writing.{writes_member, object_ends}
 use Rattle.relay_tree.proofs.write.+write.Goals as goal
 
 pub write_tree-returns-in-Whole-clause-reads_back :

@@ -1,4 +1,5 @@
-use Rattle.std.proofs.Common.{◌∙◌, ◌≡◌, ◌+◌, suc, Ok, Err, length, refl, sym, ap, subst, append-nil, arith, vec_len}
+use Rattle.std.proofs.Common.{◌∙◌, ◌≡◌, ◌+◌, suc, Ok, Err, length, refl, sym, ap, subst, append-nil}
+use Rattle.std.proofs.Common.{arith, vec_len}
 use Rattle.std.specs.Vec.Iter.{into_iter_items, into_iter_len}
 use Rattle.std.proofs.lemmas.List.{nil_from_length}
 use Rattle.relay_tree.specs.Document.{items_of}

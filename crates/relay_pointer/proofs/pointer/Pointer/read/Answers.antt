@@ -1,4 +1,5 @@
-use Rattle.std.proofs.Common.{◌≡◌, ◌<◌, ◌≤◌, false, Some, None, is_some, Option, Result, Ok, Err, IfErr, refl, sym, ◌∙◌, arith}
+use Rattle.std.proofs.Common.{◌≡◌, ◌<◌, ◌≤◌, false, Some, None, is_some, Option, Result, Ok, Err}
+use Rattle.std.proofs.Common.{IfErr, refl, sym, ◌∙◌, arith}
 use Rattle.relay_pointer.specs.Spelling.{path_of_text}
 use Rattle.relay_pointer.proofs.Escapes.{length-path_of_text, path_counts}
 use Rattle.relay_pointer.proofs.Spellings.{reads-spelled, spells_none}

@@ -3,7 +3,8 @@ use Rattle.std.specs.List.{insert}
 use Rattle.std.specs.String.{string_cmp_total}
 use Rattle.std_collections.specs.Layout.BTreeMap.{seek}
 use Rattle.std_collections.proofs.Entries.{lookup-none}
-use Rattle.std_collections.proofs.Seek.{found_at, missing_at, insert_entry-Ok, insert_entry_err, sorted_insert}
+use Rattle.std_collections.proofs.Seek.{found_at, missing_at, insert_entry-Ok, insert_entry_err}
+use Rattle.std_collections.proofs.Seek.{sorted_insert}
 use Rattle.relay_tree.specs.Entries.{compared, IsAscending}
 use Rattle.relay_tree.proofs.Finding.{below, set_ascending, set_there, value_there}
 use Rattle.relay_tree.proofs.members.Members.insert.Goals as goal
