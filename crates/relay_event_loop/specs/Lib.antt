@@ -4,3 +4,5 @@ pub mod Advances
 pub mod Rounds
 pub mod Visited
 pub mod Index
+pub mod Limits
+pub mod Refusals

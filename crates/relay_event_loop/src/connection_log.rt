@@ -1,4 +1,7 @@
 //! The log of a server's connections.
+ghost use Rattle.std.specs.Prelude.{◌≡◌};
+ghost use Rattle.relay_event_loop.specs.Refusals.{refusal_by, status_of};
+
 use relay_hub::OpenFault;
 use relay_link::EndCause;
 use std::fmt;
@@ -95,7 +98,9 @@ pub enum HandshakeRefusal {
 
 impl HandshakeRefusal {
     /// The refusal of a handshake for which the hub opened no session.
-    pub(crate) fn of(fault: OpenFault) -> HandshakeRefusal {
+    pub(crate) fn of(fault: OpenFault) -> HandshakeRefusal
+        ensures { result ≡ refusal_by fault }
+    {
         match fault {
             OpenFault::RoomName => HandshakeRefusal::Status(503),
             OpenFault::RoomsFull => HandshakeRefusal::RoomsFull,
@@ -110,7 +115,9 @@ impl HandshakeRefusal {
     /// assert!(rt; HandshakeRefusal::Status(404).status() == 404);
     /// assert!(rt; HandshakeRefusal::Closed.status() == 503);
     /// ```
-    pub fn status(self) -> u16 {
+    pub fn status(self) -> u16
+        ensures { result ≡ status_of self }
+    {
         match self {
             HandshakeRefusal::Status(status) => status,
             HandshakeRefusal::SessionsFull

@@ -1,9 +1,14 @@
 //! The relay as a server: one thread that serves non-blocking sockets in rounds.
-ghost use Rattle.std.specs.Prelude.{◌≡◌, ◌≤◌, []};
+ghost use Rattle.std.specs.Prelude.{◌≡◌, ◌≤◌, [], false};
 ghost use Rattle.relay_event_loop.specs.Advances.{KeepsFewer};
 ghost use Rattle.relay_event_loop.specs.Connections.{connections_of, limit_of, hub_of};
+ghost use Rattle.relay_event_loop.specs.Connections.{entrance_of};
 ghost use Rattle.relay_event_loop.specs.Connections.{connection_limit, made_by, made_after};
+ghost use Rattle.relay_event_loop.specs.Limits.{forgets_rooms, output_limit_of};
+ghost use Rattle.relay_event_loop.specs.Limits.{read_ahead_limits, rooms_of};
 ghost use Rattle.relay_event_loop.specs.Rounds.{RoundsOf, ConnectedOf};
+ghost use Rattle.relay_link.specs.declared.entrance.Entrance.TheVariants as entry;
+ghost use Rattle.relay_schedule.specs.ReadAhead.{no_rooms};
 
 mod accepting;
 mod administering;
@@ -122,6 +127,10 @@ impl<S: Read + Write + OpenStream + Drop, R: Readiness<S>> Server<S, R> {
         ensures limit { limit_of result ≡ connection_limit hub.config.sessions }
         ensures hub { hub_of result ≡ hub }
         ensures connected { hub.homes ≡ [] → ConnectedOf result }
+        ensures entrance { entrance_of result ≡ entry.Open }
+        ensures rooms { rooms_of result ≡ no_rooms (read_ahead_limits hub.config) }
+        ensures output { output_limit_of result ≡ most_output }
+        ensures forgets { forgets_rooms result ≡ false }
     {
         let config = hub.config();
         Server {
@@ -288,7 +297,9 @@ impl<S: Read + Write + OpenStream + Drop, R: Readiness<S>> Server<S, R> {
 /// How far a room may be read ahead: by half of what may wait for a session, at least one text. So
 /// no watcher that keeps up is folded by the number of its patches. By their weight it may be,
 /// since a short text can make a heavy change.
-fn read_ahead_limits(config: HubConfig) -> ReadAheadLimits {
+fn read_ahead_limits(config: HubConfig) -> ReadAheadLimits
+    ensures { result ≡ read_ahead_limits config }
+{
     ReadAheadLimits {
         texts: (config.max_waiting_patches / 2).max(1),
         bytes: match config.waiting_weight {

@@ -1,5 +1,6 @@
 //! The job `relay serve`: it listens, runs its rounds, and ends.
 ghost use Rattle.std.specs.Prelude.{ℕ, ◌≡◌, ◌≢◌, ◌≤◌, ◌↔◌, ◌⊎◌, [], OnOk, OnErr, IfErr, IsErrOf};
+ghost use Rattle.std.specs.Prelude.{◌-◌, ◌*◌, ◌^◌, min, false};
 ghost use Rattle.std.specs.Io.KnownBytes.{Appends};
 ghost use Rattle.relay_hub.specs.Queries.{BadLimits};
 ghost use Rattle.relay_hub.specs.Stands.{StandsFor};
@@ -7,9 +8,13 @@ ghost use Rattle.relay_server.specs.Config.{config_of};
 ghost use Rattle.relay_server.specs.Jobs.{Listens, ServesUpTo};
 ghost use Rattle.relay_script.specs.Lines.{AppendsPart};
 ghost use Rattle.relay_server.specs.Printed.{line_of, served_text};
-ghost use Rattle.relay_event_loop.specs.Connections.{hub_of, made_by, made_after};
+ghost use Rattle.relay_event_loop.specs.Connections.{hub_of, entrance_of, made_by, made_after};
+ghost use Rattle.relay_event_loop.specs.Limits.{forgets_rooms, output_limit_of};
 ghost use Rattle.relay_event_loop.specs.Rounds.{RoundsOf};
+ghost use Rattle.relay_link.specs.Entrance.{is_closed};
+ghost use Rattle.relay_link.specs.declared.entrance.Entrance.TheVariants.{Open};
 ghost use Rattle.relay_server.specs.Hosted.{HeadlineHolds};
+ghost use Rattle.relay_server.specs.declared.serve.TheConstants.{MIB};
 ghost use Rattle.relay_script.specs.declared.fault.ScriptFault.TheVariants.{BadLimit, NoMemory};
 ghost use Rattle.relay_script.specs.declared.fault.ScriptFault.TheVariants.{Output};
 ghost use Rattle.relay_loopback.specs.declared.fault.ServeFault.TheVariants.{Ended};
@@ -168,8 +173,13 @@ fn server_of<S: Read + Write + OpenStream + Drop, R: Readiness<S>>(
     options: ServeOptions,
 ) -> Server<S, R>
     ensures hub { hub_of result ≡ hub }
+    ensures forgets { forgets_rooms result ≡ options.forget_rooms }
+    ensures closed { is_closed (entrance_of result) ≡ options.closed }
+    ensures open { options.closed ≡ false → entrance_of result ≡ Open }
+    ensures output { output_limit_of result
+        ≡ min (2 ^ 64 - 1) (options.output_mib * MIB) }
 {
-    let most_output = options.output_mib.saturating_mul(MIB);
+    let most_output = bytes_of(options.output_mib);
     let mut server = Server::new(alloc, hub, readiness, most_output);
     if options.forget_rooms {
         server.forget_rooms();
@@ -178,6 +188,13 @@ fn server_of<S: Read + Write + OpenStream + Drop, R: Readiness<S>>(
         server.set_entrance(Entrance::closed(alloc));
     }
     server
+}
+
+/// So many MiB in bytes.
+fn bytes_of(mib: u64) -> u64
+    ensures { result ≡ min (2 ^ 64 - 1) (mib * MIB) }
+{
+    mib.saturating_mul(MIB)
 }
 
 /// Prints the port, runs the rounds, ends every connection, and prints the number of rounds. The

@@ -1,5 +1,5 @@
 //! A server that an operator may ask, have forget a room, open to clients, and stop.
-ghost use Rattle.std.specs.Prelude.{◌≡◌, ◌≤◌};
+ghost use Rattle.std.specs.Prelude.{◌≡◌, ◌≤◌, min};
 ghost use Rattle.relay_event_loop.specs.Advances.{KeepsFewer, MakesWithin};
 ghost use Rattle.relay_event_loop.specs.Connections.{connections_of, limit_of, made_by, made_after};
 ghost use Rattle.relay_event_loop.specs.Rounds.{RoundsOf};
@@ -44,6 +44,7 @@ where
         log: &mut J,
     ) -> u64
         ensures at_most { result ≤ rounds }
+        ensures first { min 1 rounds ≤ result }
         ensures made { made_by self.new ≡ made_after result self.old }
         ensures rounds { RoundsOf S.remaining S.contents self.old self.new }
         ensures limit { limit_of self.new ≡ limit_of self.old }
@@ -67,6 +68,7 @@ where
         log: &mut J,
     ) -> u64
         ensures at_most { result ≤ rounds }
+        ensures first { min 1 rounds ≤ result }
         ensures makes { MakesWithin S.remaining S.contents result self.old self.new }
     {
         for before in 0..rounds {

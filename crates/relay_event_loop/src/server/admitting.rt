@@ -3,6 +3,7 @@ ghost use Rattle.std.specs.Prelude.{◌≡◌};
 ghost use Rattle.relay_event_loop.specs.Advances.{KeepsFewer};
 ghost use Rattle.relay_event_loop.specs.Connections.{connections_of, entrance_of, hub_of, limit_of};
 ghost use Rattle.relay_event_loop.specs.Connections.{made_by};
+ghost use Rattle.relay_event_loop.specs.Limits.{forgets_rooms, output_limit_of};
 ghost use Rattle.relay_event_loop.specs.Rounds.{RoundsOf};
 
 use super::Server;
@@ -36,6 +37,8 @@ impl<S: Read + Write + OpenStream + Drop, R: Readiness<S>> Server<S, R> {
         ensures limit { limit_of self.new ≡ limit_of self.old }
         ensures made { made_by self.new ≡ made_by self.old }
         ensures connections { connections_of self.new ≡ connections_of self.old }
+        ensures forgets { forgets_rooms self.new ≡ forgets_rooms self.old }
+        ensures output { output_limit_of self.new ≡ output_limit_of self.old }
         ensures rounds { RoundsOf S.remaining S.contents self.old self.new }
     {
         self.entrance = entrance;

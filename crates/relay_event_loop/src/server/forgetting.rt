@@ -4,9 +4,11 @@
 //! forgets rooms, it sees to it that there is one: of the rooms in which nobody is, the one that
 //! has been empty for the longest time begins anew. It looks for one only after a session was
 //! opened or closed, since nothing else begins a room or leaves one empty.
-ghost use Rattle.std.specs.Prelude.{◌≡◌};
+ghost use Rattle.std.specs.Prelude.{◌≡◌, false, true};
 ghost use Rattle.relay_event_loop.specs.Advances.{KeepsFewer};
 ghost use Rattle.relay_event_loop.specs.Connections.{connections_of, limit_of, hub_of, made_by};
+ghost use Rattle.relay_event_loop.specs.Connections.{entrance_of};
+ghost use Rattle.relay_event_loop.specs.Limits.{forgets_rooms, output_limit_of};
 ghost use Rattle.relay_event_loop.specs.Rounds.{RoundsOf};
 
 use super::Server;
@@ -33,7 +35,9 @@ pub(super) struct RoomVacancies {
 
 impl RoomVacancies {
     /// Of a hub without rooms, none of which is forgotten.
-    pub fn new(alloc: Global) -> RoomVacancies {
+    pub fn new(alloc: Global) -> RoomVacancies
+        ensures { result.is_enabled ≡ false }
+    {
         RoomVacancies {
             empty: EmptyRooms::new(alloc),
             is_enabled: false,
@@ -54,6 +58,9 @@ impl<S: Read + Write + OpenStream + Drop, R: Readiness<S>> Server<S, R> {
         ensures made { made_by self.new ≡ made_by self.old }
         ensures connections { connections_of self.new ≡ connections_of self.old }
         ensures rounds { RoundsOf S.remaining S.contents self.old self.new }
+        ensures forgets { forgets_rooms self.new ≡ true }
+        ensures entrance { entrance_of self.new ≡ entrance_of self.old }
+        ensures output { output_limit_of self.new ≡ output_limit_of self.old }
     {
         self.vacancies.is_enabled = true;
         self.vacancies.is_check_due = true;
