@@ -48,6 +48,6 @@ pub record Turns {S : Type 0} (remaining : S → Option (List ℕ)) (texts most 
   -- used up is it silent
   pub patient : stage_of new ≡ Closing → turns_left old ≤ turns_left new + 1
   pub silent : turn.cause ≡ Some Silent → turns_left old ≤ 1
-  -- a link whose stream failed in the handshake is gone
+  -- a link whose stream failed in the handshake neither waits nor goes on replying
   pub sound : IsSound old → IsSound new
   pub gone : stage_of old ≡ Gone → (turn.events.items ≡ []) × (new ≡ old)
