@@ -1,6 +1,6 @@
-//! What a session may do in its room.
+//! The rights of a session in its room.
 
-/// What a session may do in its room, as the target of its handshake asks.
+/// The rights of a session in its room, as the target of its handshake asks.
 ///
 /// ```
 /// let mut hub = Hub::new(alloc, 1, 1, 64, 32).ok()?;

@@ -1,5 +1,5 @@
-//! What a client enters by: the name of a room, and what it may do there. A handshake names both,
-//! a line of a script the room.
+//! A client's way in: the name of a room, and its rights there. A handshake names both, a line of
+//! a script the room.
 #![tactic(auto)]
 
 mod access;

@@ -1,4 +1,4 @@
--- Which requests are accepted.
+-- The requests that are accepted.
 use Rattle.std.proofs.Common.{◌≡◌, ℕ, Bool, true, false, not, IsTrue, List, [], ◌∷◌, ◌++◌, ◌&&◌}
 use Rattle.std.proofs.Common.{◌||◌, ◌==◌, length, codes, bytes_eq, nat_le, Option, Some, None}
 use Rattle.std.proofs.Common.{is_some, is_none, Result, Ok, Err, refl, sym, ◌∙◌, ap, subst, arith}

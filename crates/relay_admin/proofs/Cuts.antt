@@ -1,4 +1,4 @@
--- What `split_once` finds stands before and behind the first mark.
+-- The parts that `split_once` finds stand before and behind the first mark.
 use Rattle.std.proofs.Common.{◌≡◌, ℕ, suc, ◌+◌, ◌<◌, Bool, true, false, not, cond, List, [], ◌∷◌}
 use Rattle.std.proofs.Common.{length, take, drop, Some, None, refl, ◌∙◌, ap, arith, ◌==◌}
 use Rattle.std.proofs.Common.{if◌then◌else◌}

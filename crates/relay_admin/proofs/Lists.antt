@@ -1,4 +1,4 @@
--- What fields list, one after another.
+-- The items that fields list, one after another.
 use Rattle.std.proofs.Common.{◌≡◌, ℕ, suc, ◌+◌, ◌<◌, Bool, true, false, if◌then◌else◌, List, []}
 use Rattle.std.proofs.Common.{◌∷◌, ◌++◌, length, map, drop, get_or, refl, sym, ◌∙◌, ap}
 use Rattle.std.proofs.Common.{append_assoc, add-one}

@@ -1,4 +1,4 @@
--- What is unescaped is what UTF-8 allows.
+-- Unescaped bytes are what UTF-8 allows.
 use Rattle.std.proofs.Common.{◌≡◌, ℕ, Bool, true, false, List, Some, None, refl, sym, if◌then◌else◌}
 use Rattle.std.proofs.Common.{◌&&◌, IsUtf8}
 use Rattle.std.specs.Str.{is_utf8}

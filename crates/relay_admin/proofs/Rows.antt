@@ -1,4 +1,4 @@
--- What the definitions say of a few texts: each row is computed.
+-- The values of the definitions for a few texts: each row is computed.
 use Rattle.std.proofs.Common.{◌≡◌, true, false, [], ◌∷◌, codes, Some, None, refl}
 use Rattle.std.specs.Char.{encode_utf8}
 use Rattle.std.specs.Str.{is_utf8, chars}

@@ -1,4 +1,4 @@
--- What stands between the parts of a text.
+-- The bytes that stand between the parts of a text.
 use Rattle.std.proofs.Common.{◌≡◌, ◌≢◌, ℕ, List, ◌++◌, Option, Some, None, sym, ◌∙◌, ap}
 use Rattle.std.proofs.Common.{MatchOption}
 use denote.Ref.{Bor}

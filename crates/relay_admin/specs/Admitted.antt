@@ -1,4 +1,4 @@
--- Which requests are accepted, in HTTP's terms (RFC 9110, sections 7.2 and 9; RFC 6454, section 7).
+-- Accepted requests, in HTTP's terms (RFC 9110, sections 7.2 and 9; RFC 6454, section 7).
 use Rattle.std.specs.Prelude.{◌≡◌, ◌≤◌, ◌↔◌, ⊤, ℕ, IsTrue, false, List, ◌++◌, length, codes, Some}
 use Rattle.std.specs.Prelude.{None, map}
 use Rattle.httparse.specs.Grammar.{RequestHead, ReadsRequest}

@@ -1,4 +1,5 @@
--- What is said to a hub, as the tokens of its JSON, and the text of the snapshot that it shows.
+-- The texts that are said to a hub, as the tokens of their JSON, and the text of the snapshot that
+-- it shows.
 use Rattle.std.specs.Prelude.{ℕ, List, [], ◌∷◌, ◌++◌, Option, Some, None, IsSome, codes, decimal}
 use Rattle.std.specs.Prelude.{IsUtf8}
 use Rattle.json.specs.Json.{document}

@@ -1,4 +1,4 @@
--- Which edits of a room are accepted: the fields that a PATCH must have (RFC 5789; RFC 9110,
+-- The edits of a room that are accepted: the fields that a PATCH must have (RFC 5789; RFC 9110,
 -- sections 8.3, 8.6 and 10.1.1; RFC 9112, section 6).
 use Rattle.std.specs.Prelude.{ℕ, Bool, true, not, ◌+◌, ◌-◌, ◌*◌, ◌==◌, ◌&&◌, ◌||◌, nat_lt, nat_le}
 use Rattle.std.specs.Prelude.{if◌then◌else◌, List, [], ◌∷◌, length, take, drop, codes, Option, Some}

@@ -18,7 +18,8 @@ hub_text m = concat
     ∷ gauge (codes "relay_sessions_limit") (codes "Sessions that may be open.") m.max_sessions
     ∷ counter (codes "relay_edits_total")
     (codes "Edits accepted, those of wills among them.") m.edits
-    ∷ counter (codes "relay_wills_total") (codes "Wills of closed sessions that were done.") m.wills
+    ∷ counter (codes "relay_wills_total")
+    (codes "Wills of closed sessions, those refused among them.") m.wills
     ∷ [])
 
 -- what is held for clients

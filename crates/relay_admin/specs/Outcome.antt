@@ -1,4 +1,4 @@
--- What came of a request, by the hub's reply to it: refused with a fault, or not.
+-- The outcome of a request, by the hub's reply to it: refused with a fault, or not.
 use Rattle.std.specs.Prelude.{ℕ, Bool, if◌then◌else◌, List, [], ◌∷◌, codes, bytes_eq, Option, Some}
 use Rattle.std.specs.Prelude.{None, option_and_then, option_map}
 use Rattle.std.specs.List.{list_any}

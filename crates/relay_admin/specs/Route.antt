@@ -1,4 +1,4 @@
--- What an operator may ask, by target and method.
+-- The requests that an operator may make, by target and method.
 use Rattle.std.specs.Prelude.{ℕ, Bool, List, ◌||◌, if◌then◌else◌, codes, bytes_eq, Option, Some}
 use Rattle.std.specs.Prelude.{None, option_map}
 use Rattle.relay_admin.specs.Cut.{behind}

@@ -1,10 +1,10 @@
-//! Why a request is refused.
+//! Causes of a refused request.
 ghost use Rattle.std.specs.Prelude.{◌≡◌};
 ghost use Rattle.relay_admin.specs.AdminFaults.{status_of, line_of, why_of};
 
 use http::StatusCode;
 
-/// Why a request is refused, in the order in which it is checked.
+/// The causes for which a request is refused, in the order in which they are checked.
 ///
 /// ```
 /// // A page that reaches the port under a name of its own sends that name.
@@ -122,7 +122,7 @@ impl AdminFault {
             AdminFault::OnlyDoorMethods => "only PUT and DELETE\n",
             AdminFault::BadQuery => "the query is not one at=\n",
             AdminFault::Expectation => "no Expect is met\n",
-            AdminFault::MediaType => "the body is no JSON Patch\n",
+            AdminFault::MediaType => "the Content-Type is not application/json-patch+json\n",
             AdminFault::NoLength => "there is no Content-Length\n",
             AdminFault::BadLength => "the Content-Length is not one number\n",
             AdminFault::BodyTooLong => "the body is too long\n",

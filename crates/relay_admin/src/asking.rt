@@ -1,5 +1,5 @@
-//! What is said to a hub for a request that reads or edits a room, and what the hub shows, as texts
-//! (`docs/PROTOCOL.md`, "Requests" and "Messages").
+//! The texts that are said to a hub for a request that reads or edits a room, and those that the
+//! hub shows (`docs/PROTOCOL.md`, "Requests" and "Messages").
 ghost use Rattle.std.specs.Prelude.{◌≡◌, ◌≢◌, ◌↔◌, ℕ, List, ◌++◌, ◌∷◌, [], codes, IfOk, OnOk};
 ghost use Rattle.std.specs.Prelude.{IfSome, IsSome, MatchOption, string_bytes};
 ghost use Rattle.json.specs.Lex.{tokens};
@@ -12,7 +12,7 @@ use crate::cut::behind;
 use json::{Reader, Scratch, Writer, is_valid};
 use std::alloc::{AllocError, Global};
 
-/// What a hub says to a text that is no JSON, and so the body of the response to such a patch
+/// The reply of a hub to a text that is no JSON, and so the body of the response to such a patch
 /// ([`crate::Response::Malformed`]).
 pub const NOT_JSON: &str = r#"{"at":null,"fault":"not-json","id":null,"kind":"refused"}"#;
 

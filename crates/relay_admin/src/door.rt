@@ -1,4 +1,4 @@
-//! What is asked of a room's door: that clients may enter the room, or that nobody may.
+//! Requests for a room's door: that clients may enter the room, or that nobody may.
 ghost use Rattle.std.specs.Prelude.{◌≡◌, IfOk};
 ghost use Rattle.relay_admin.specs.Judged.{verdict_told};
 ghost use Rattle.relay_admin.specs.Verdict.{accept, door_asked};

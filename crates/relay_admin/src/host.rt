@@ -4,7 +4,7 @@ ghost use Rattle.std.specs.List.{list_all};
 ghost use Rattle.std.specs.Char.{is_ascii_digit};
 ghost use Rattle.relay_admin.specs.Host.{is_loopback, names, is_port};
 
-/// Whether the value of a field `Host` is `localhost`, `127.0.0.1` or `[::1]`, in any case, alone
+/// True if the value of a field `Host` is `localhost`, `127.0.0.1` or `[::1]`, in any case, alone
 /// or with a port.
 pub(crate) fn is_loopback(host: &[u8]) -> bool
     ensures { result ≡ is_loopback host.now }
@@ -21,7 +21,7 @@ fn names(host: &[u8], name: &str) -> bool
     }
 }
 
-/// Whether the bytes behind a name are a port, or none.
+/// True if the bytes behind a name are a port, or none.
 fn is_port(bytes: &[u8]) -> bool
     ensures { result ≡ is_port bytes.now }
 {

@@ -11,7 +11,7 @@ use std::alloc::{AllocError, Global};
 pub(crate) struct Metric<'a> {
     pub name: &'static str,
     pub kind: Kind,
-    /// What it is.
+    /// A description of it.
     pub help: &'static str,
     pub values: Values<'a>,
 }

@@ -18,31 +18,31 @@ pub struct Metrics<'a> {
     pub max_sessions: u64,
     pub connections: u64,
     pub max_connections: u64,
-    /// How many edits were accepted, those of wills among them.
+    /// The number of edits that were accepted, those of wills among them.
     pub edits: u64,
-    /// How many wills of closed sessions were done.
+    /// The number of wills of closed sessions, those refused among them.
     pub wills: u64,
     /// The sum of the weights of the rooms' documents.
     pub weight: u64,
-    /// What the changes weigh together that the rooms hold for resumes.
+    /// The total weight of the changes that the rooms hold for resumes.
     pub history_weight: u64,
-    /// What the patches weigh together that wait for sessions, as far as that is bounded.
+    /// The total weight of the patches that wait for sessions, as far as that is bounded.
     pub waiting_weight: u64,
-    /// How many sessions were opened.
+    /// The number of sessions that were opened.
     pub opened: u64,
     pub refused: RefusedBy,
     pub ended: EndedBy,
     pub drawn: DrawnMessages<'a>,
-    /// How many times the log said that memory was refused.
+    /// The number of times that the log said that memory was refused.
     pub shed: u64,
     pub rounds: u64,
-    /// How long the longest round of the last minute worked, in microseconds.
+    /// The time for which the longest round of the last minute worked, in microseconds.
     pub longest_round: u64,
-    /// What the hub's work cost by its own count, in microseconds.
+    /// The cost of the hub's work by its own count, in microseconds.
     pub hub_cost: u64,
 }
 
-/// How many handshakes were refused, by the status.
+/// The number of handshakes that were refused, by the status.
 #[derive(Clone, Copy, Debug, Default, PartialEq, Eq)]
 pub struct RefusedBy {
     /// 400
@@ -59,7 +59,7 @@ pub struct RefusedBy {
     pub unavailable: u64,
 }
 
-/// How many connections ended, by the cause.
+/// The number of connections that ended, by the cause.
 #[derive(Clone, Copy, Debug, Default, PartialEq, Eq)]
 pub struct EndedBy {
     pub peer: u64,
@@ -74,7 +74,7 @@ pub struct EndedBy {
     pub relay: u64,
 }
 
-/// How many messages were drawn for sessions, by kind.
+/// The number of messages that were drawn for sessions, by kind.
 #[derive(Clone, Copy, Debug, Default, PartialEq, Eq)]
 pub struct DrawnMessages<'a> {
     /// The refusals are among them.
@@ -86,7 +86,7 @@ pub struct DrawnMessages<'a> {
     pub snapshots: SnapshotsBy,
 }
 
-/// How many snapshots were drawn for sessions, by what made them due.
+/// The number of snapshots that were drawn for sessions, by what made them due.
 #[derive(Clone, Copy, Debug, Default, PartialEq, Eq)]
 pub struct SnapshotsBy {
     /// The client asked to watch.
@@ -158,14 +158,14 @@ fn write_hub(alloc: Global, text: &mut String, metrics: &Metrics<'_>) -> Result<
         Metric {
             name: "relay_wills_total",
             kind: Counter,
-            help: "Wills of closed sessions that were done.",
+            help: "Wills of closed sessions, those refused among them.",
             values: One(metrics.wills),
         },
     ];
     write_metrics(alloc, text, &rows)
 }
 
-/// What is held for clients.
+/// The weights of what is held for clients.
 fn write_weights(alloc: Global, text: &mut String, metrics: &Metrics<'_>) -> Result<(), AllocError>
     ensures { OnOk result (string_bytes text.new
         ≡ string_bytes text.old ++ weights_text metrics.now) }

@@ -1,10 +1,10 @@
-//! Why a room is not forgotten.
+//! Causes for which a room is not forgotten.
 ghost use Rattle.std.specs.Prelude.{◌≡◌};
 ghost use Rattle.relay_admin.specs.AdminFaults.{kept_status, kept_why};
 
 use http::StatusCode;
 
-/// Why a room is not forgotten: it stays as it is.
+/// The cause for which a room is not forgotten: it stays as it is.
 ///
 /// ```
 /// let text = response_text(alloc, &Response::NotForgotten(NotForgotten::NoRoom)).ok()?;

@@ -1,10 +1,10 @@
-//! What came of a request, by the hub's reply to it.
+//! The outcome of a request, by the hub's reply to it.
 ghost use Rattle.std.specs.Prelude.{◌≡◌, option_copied};
 ghost use Rattle.relay_admin.specs.Outcome.{fault_in, is_malformed, outcome_of, outcome_by};
 
 use crate::cut::{behind, cut};
 
-/// What came of a request, by the hub's reply to it.
+/// The outcome of a request, by the hub's reply to it.
 ///
 /// ```
 /// let stale = r#"{"at":null,"fault":"stale","id":1,"kind":"refused","rev":5}"#;

@@ -47,11 +47,11 @@ pub(crate) const MAX_HEAD_FIELDS: usize = 1_365;
 /// Each call reads from the first byte and allocates about 45 KB, which it frees before it returns.
 /// If memory runs out, it returns `AllocError` and leaves nothing behind.
 pub fn ask(alloc: Global, bytes: &[u8]) -> Result<Ask, AllocError>
-    // Which requests are accepted.
+    // The requests that are accepted.
     ensures admits { IfOk result (AdmitsExactly bytes.now) }
     ensures head { IfOk result (AnswersHead bytes.now) }
     ensures no_head { IfOk result (AnswersNoHead bytes.now) }
-    // Where the body of an edit begins.
+    // The place at which the body of an edit begins.
     ensures body { IfOk result (FollowsHead bytes.now) }
 {
     answered(alloc, bytes)
@@ -84,7 +84,7 @@ fn answer(alloc: Global, head: &Head<'_, '_>, len: usize) -> Result<Ask, AllocEr
     }
 }
 
-/// What a head of `len` bytes asks, or why not.
+/// Returns the request in a head of `len` bytes, or the cause for which there is none.
 fn asked(alloc: Global, head: &Head<'_, '_>, len: usize) -> Result<Ask, Fault<AdminFault>>
     ensures verdict { JudgesAsk result (verdict_on (parts head.now)) }
     ensures head { IfOk result (HasHead len) }

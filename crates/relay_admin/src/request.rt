@@ -1,4 +1,4 @@
-//! What an operator may ask.
+//! The requests that an operator may make.
 ghost use Rattle.std.specs.Prelude.{◌≡◌};
 ghost use Rattle.relay_admin.specs.Route.{method_of};
 

@@ -96,7 +96,7 @@ impl<'a> Response<'a> {
         }
     }
 
-    /// Whether it has content: a 204 and a 304 have none, and so no length (RFC 9110, sections 8.6,
+    /// True if it has content: a 204 and a 304 have none, and so no length (RFC 9110, sections 8.6,
     /// 15.3.5 and 15.4.5).
     fn has_content(&self) -> bool
         ensures { result ≡ has_content self.now }

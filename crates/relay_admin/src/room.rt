@@ -1,4 +1,4 @@
-//! What is asked of one room: its part, an edit, or that it is forgotten.
+//! Requests for one room: its part, an edit, or that it is forgotten.
 ghost use Rattle.httparse.specs.Borrowed.{header_parts};
 ghost use Rattle.std.specs.Prelude.{map, IfOk};
 ghost use Rattle.relay_admin.specs.Asked.{HasHead};

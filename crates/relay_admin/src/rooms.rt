@@ -8,7 +8,7 @@ ghost use Rattle.relay_admin.specs.Rooms.{begun, with_empty, with_number, with_n
 use json::Writer;
 use std::alloc::{AllocError, Global};
 
-/// What is said of a room.
+/// The facts that are said of a room.
 ///
 /// ```
 /// let mut out = begin_rooms(alloc).ok()?;

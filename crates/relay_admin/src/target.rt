@@ -1,4 +1,4 @@
-//! Where a target leads, and which methods are taken there.
+//! The place to which a target leads, and the methods that are taken there.
 ghost use Rattle.std.specs.Prelude.{◌≡◌, IfOk, Some, codes, option_copied, option_map};
 ghost use Rattle.relay_admin.specs.Judged.{place_of};
 ghost use Rattle.relay_admin.specs.Route.{named_at, place_at, takes};
@@ -10,13 +10,13 @@ use crate::request::AdminRequest;
 use crate::route::request_at;
 use std::alloc::{AllocError, Global};
 
-/// What the targets of rooms begin with.
+/// The prefix of the targets of rooms.
 const ROOMS: &str = "/rooms/";
 
-/// What the targets of doors begin with.
+/// The prefix of the targets of doors.
 const DOORS: &str = "/open/";
 
-/// Where a target leads.
+/// The place to which a target leads.
 #[derive(Clone, Copy)]
 pub(crate) enum Target<'b> {
     /// A request with a path of its own.
@@ -28,7 +28,7 @@ pub(crate) enum Target<'b> {
 }
 
 impl Target<'_> {
-    /// Whether a method is taken there.
+    /// True if a method is taken there.
     pub(crate) fn takes(self, method: &str) -> bool
         ensures { result ≡ takes method.now (place_of self.entry) }
     {

@@ -1,8 +1,8 @@
-//! Why a room cannot be entered, or opened by name, now.
+//! Causes for which a room cannot be entered, or opened by name, now.
 ghost use Rattle.std.specs.Prelude.{◌≡◌};
 ghost use Rattle.relay_admin.specs.AdminFaults.{unavailable_why};
 
-/// Why a room cannot be entered, or opened by name, now. Nothing was changed.
+/// The cause for which a room cannot be entered, or opened by name, now. Nothing was changed.
 ///
 /// ```
 /// let text = response_text(alloc, &Response::Unavailable(Unavailable::Rooms)).ok()?;

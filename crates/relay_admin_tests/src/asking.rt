@@ -285,7 +285,7 @@ impl<R: AllocGlobal> Subject<R> for Requests {
     }
 }
 
-// What a caret stands for: 64 bytes.
+// The text that a caret stands for: 64 bytes.
 const CARET: &str = "xxxxxxxxxxxxxxxxxxxxxxxxxxxxxxxxxxxxxxxxxxxxxxxxxxxxxxxxxxxxxxxx";
 
 // The tag of the revision to which conditions are compared.
@@ -303,7 +303,7 @@ fn asked(alloc: Global, text: &str) -> Option<Ask> {
     ask(alloc, text.as_str().as_bytes()).ok()
 }
 
-/// Whether `If-Match` of an edit with these fields holds.
+/// Says whether `If-Match` of an edit with these fields holds.
 fn holds(alloc: Global, fields: &str) -> Option<String> {
     let text = format!(in alloc; "{EDIT}{fields}\r\n").ok()?;
     let Some(Ask::Edit(edit)) = asked(alloc, text.as_str()) else {
@@ -312,7 +312,7 @@ fn holds(alloc: Global, fields: &str) -> Option<String> {
     shown(alloc, edit.if_match.matches(alloc, TAG).ok()?)
 }
 
-/// Whether `If-None-Match` of a request with these fields names the revision.
+/// Says whether `If-None-Match` of a request with these fields names the revision.
 fn is_named(alloc: Global, fields: &str) -> Option<String> {
     let text = format!(in alloc; "{READ}{fields}\r\n").ok()?;
     let Some(Ask::Read(part)) = asked(alloc, text.as_str()) else {

@@ -68,7 +68,7 @@ relay_sessions_limit 4
 # HELP relay_edits_total Edits accepted, those of wills among them.
 # TYPE relay_edits_total counter
 relay_edits_total 7
-# HELP relay_wills_total Wills of closed sessions that were done.
+# HELP relay_wills_total Wills of closed sessions, those refused among them.
 # TYPE relay_wills_total counter
 relay_wills_total 38
 # HELP relay_document_weight Weight of all documents together.

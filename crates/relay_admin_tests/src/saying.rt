@@ -65,7 +65,7 @@ fn texts_are_said_and_heard(rt: HostRuntime) {
     play(&rt, &mut Texts, ROWS).expect(&rt, "each row holds");
 }
 
-/// What is said, and what is heard.
+/// The texts that are said, and those that are heard.
 #[derive(Clone, Copy)]
 struct Texts;
 

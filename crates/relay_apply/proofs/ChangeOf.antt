@@ -1,4 +1,4 @@
--- What the checks of a replacement, a copy and a move imply for the operation and its change.
+-- Consequences of the checks of a replacement, a copy and a move for the operation and its change.
 use Rattle.std.proofs.Common.{◌≡◌, [], ◌∷◌, ◌++◌, Bool, true, false, Ok, Err, IsOk, refl, sym, ap}
 use Rattle.std.proofs.Common.{subst, ◌∙◌}
 use Rattle.relay_tree.specs.Document.{Document}

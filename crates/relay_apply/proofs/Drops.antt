@@ -50,7 +50,7 @@ fewer ms t rest h =
     let whole : Ok (object s.0) ≡ Ok rest = s.2 in
     record { members = s.0; gone = ok_or_some _ _ _ s.1; is = cc }
 
--- Where a token inserts.
+-- The place at which a token inserts.
 
 pub resolve_insert_in-shorter : (d : Document) (n k : ℕ) (gone t : Token) (rest : Document)
     → list_len d ≡ Some n → k ≡ n - 1 → drop_child gone d ≡ Ok rest
@@ -71,7 +71,7 @@ resolve_insert_in-fewer (object ms) gone t rest len other h =
     rw (s.is, member_at-drop_other ms gone t s.members other s.gone) refl
 resolve_insert_in-fewer _ gone t rest len other h = cc
 
--- What a token names.
+-- The part that a token names.
 
 shifts : (n i j k : ℕ) → shifted_index n (Some i) (Some j) ≡ Some k → (i ≤ j) × (k ≡ suc j)
 shifts n i j k h = go (nat_le i j) (nat_lt j n) refl refl

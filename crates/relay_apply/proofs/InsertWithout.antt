@@ -1,4 +1,4 @@
--- Where an insertion goes in a document from which a part was removed.
+-- The place of an insertion in a document from which a part was removed.
 use Rattle.std.proofs.Common.{◌≡◌, [], ◌∷◌, Bool, true, false, Result, Ok, Err, refl, sym, ap, ◌∙◌}
 use Rattle.std.proofs.Common.{bytes_eq}
 use Rattle.relay_tree.specs.Document.{Document, list, object}

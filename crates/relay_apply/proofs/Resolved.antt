@@ -30,7 +30,7 @@ pub resolve_existing-end : (d : Document) (before : Path) (t : Token)
 resolve_existing-end d [] t = refl
 resolve_existing-end d (u ∷ before) t = rw (parent_end u before t, last_end u before t) refl
 
--- What a path names is found in the container of its last token, or not at all.
+-- The part that a path names is found in the container of its last token, or not at all.
 module _ {A : Type 0} (found : Document → Path → Result A Cause)
     (found_in : Document → Token → Result A Cause)
     (ends : (d : Document) (before : Path) (t : Token)

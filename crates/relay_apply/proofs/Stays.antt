@@ -1,4 +1,4 @@
--- Whether a moved part returns to the place that it had.
+-- The moves that return a part to the place that it had.
 use Rattle.std.proofs.Common.{◌≡◌, ℕ, suc, [], ◌∷◌, ◌++◌, Bool, true, false, ◌&&◌, ◌||◌, Some}
 use Rattle.std.proofs.Common.{Result, Ok, refl, sym, ap, ◌∙◌, bytes_eq, nat_eq, ◌==◌, ◌<◌, ◌-◌, ◌+◌}
 use Rattle.std.proofs.Common.{◌^◌, min, List, length, if◌then◌else◌, arith}

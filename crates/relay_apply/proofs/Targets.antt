@@ -1,4 +1,4 @@
--- What the target of an insertion or a removal implies for the operation.
+-- Consequences of the target of an insertion or a removal for the operation.
 use Rattle.std.proofs.Common.{◌≡◌, ℕ, ◌<◌, [], ◌∷◌, ◌++◌, Bool, true, false, Option, Some, None}
 use Rattle.std.proofs.Common.{is_some, ok_or, Result, Ok, Err, IsOk, refl, sym, ap, subst, ◌∙◌}
 use Rattle.std.proofs.Common.{nat_le, if◌then◌else◌, arith}

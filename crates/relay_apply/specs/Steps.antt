@@ -1,7 +1,7 @@
 -- Definitions by which the functions of this crate state what their steps do.
 use Rattle.std.specs.Prelude.{ℕ, List, [], ◌∷◌, ◌++◌, Bool, true, false, Option, Some, None, Result}
-use Rattle.std.specs.Prelude.{Ok, Err, is_some, ◌≡◌, IsOk, ◌⊎◌, if◌then◌else◌, nat_le, nat_lt, ◌+◌}
-use Rattle.std.specs.Prelude.{◌==◌, ◌&&◌, ◌||◌, bytes_eq}
+use Rattle.std.specs.Prelude.{Ok, Err, is_some, ◌≡◌, ◌≢◌, IsOk, ◌⊎◌, if◌then◌else◌, nat_le, nat_lt}
+use Rattle.std.specs.Prelude.{◌+◌, ◌==◌, ◌&&◌, ◌||◌, bytes_eq}
 use Rattle.relay_tree.specs.Document.{Document, list, object, weight}
 use Rattle.relay_tree.specs.Part.{items_length, member_at}
 use Rattle.relay_tree.specs.Budget.{paid}
@@ -11,12 +11,11 @@ use Rattle.relay_pointer.specs.Path.{Path}
 use Rattle.relay_patch.specs.Walk.{then_do, is_dash, step, walk}
 use Rattle.relay_patch.specs.declared.fault.Cause.{Cause}
 use Rattle.relay_patch.specs.declared.fault.Cause.TheVariants.{NotIndex, PastEnd, NoContainer, Root}
-use Rattle.relay_patch.specs.declared.fault.Cause.TheVariants.{TooHeavy}
+use Rattle.relay_patch.specs.declared.fault.Cause.TheVariants.{NoMemory, TooHeavy}
 use Rattle.relay_patch.specs.Place.{parent, last}
 use Rattle.relay_patch.specs.declared.change.Place.{Place}
 use Rattle.relay_patch.specs.Patch.{effect}
 use Rattle.relay_patch.specs.declared.op.Op.{Op}
-use Rattle.relay_patch.specs.declared.op.Op.TheVariants as op
 use Rattle.relay_patch.specs.Change.{changes_of}
 use Rattle.relay_patch.specs.declared.change.Change.{Change}
 use Rattle.relay_patch.specs.Weight.{changes_weight}
@@ -117,12 +116,10 @@ abbrev pub listed : Option Change → List Change
 listed None = []
 listed (Some c) = c ∷ []
 
--- the weight of the value that an operation brings, of which its change has a copy; 0 if it brings
--- none
-abbrev pub brought_weight : Op → ℕ
-brought_weight (op.Add path v) = weight v
-brought_weight (op.Replace path v) = weight v
-brought_weight _ = 0
+-- a fault of a step that copies a value: it ran out of memory, or what is left does not pay for the
+-- value
+abbrev pub IsUnpaid : Document → Budget → Cause → Type 0
+IsUnpaid v left cause = cause ≢ NoMemory → (cause ≡ TooHeavy) × (paid (weight v) left ≡ None)
 
 -- why an operation is refused if its change weighs more than what is left: it fails its own checks,
 -- or it is too heavy
@@ -131,3 +128,9 @@ IsOverspent d op left cause =
     (effect d op ≡ Err cause)
     ⊎ ((cause ≡ TooHeavy) × IsOk (effect d op)
     × (paid (changes_weight (changes_of d op)) left ≡ None))
+
+-- a fault of an operation for whose change so much is left: one that passes ran out of memory, or
+-- it is refused
+abbrev pub RefusesWithin : Document → Op → Budget → Cause → Type 0
+RefusesWithin d op left cause =
+    (cause ≢ NoMemory → IsOverspent d op left cause) × (cause ≡ NoMemory → IsOk (effect d op))

@@ -1,5 +1,5 @@
--- How changes are taken back: a replaced part is put back, an inserted value is dropped, a removed
--- one is reinserted, a transferred one is removed from where it was put and reinserted where it was
+-- Changes are taken back: a replaced part is put back, an inserted value is dropped, a removed one
+-- is reinserted, a transferred one is removed from where it was put and reinserted where it was
 -- before, and an element that slid within its list slides back.
 use Rattle.std.specs.Prelude.{ℕ, List, [], ◌∷◌, Option, Some, None, option_map, option_and_then}
 use Rattle.std.specs.Prelude.{Result, Ok, Err, nat_lt, if◌then◌else◌, vec_capacity, string_bytes}

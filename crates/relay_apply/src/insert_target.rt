@@ -12,7 +12,7 @@ use relay_patch::Cause;
 use relay_pointer::index_of;
 use relay_tree::{Node, Tree};
 
-/// Where a value is inserted.
+/// The place at which a value is inserted.
 #[derive(Clone, Copy)]
 pub(crate) enum InsertTarget {
     /// In place of the whole document.

@@ -20,7 +20,7 @@ use relay_pointer::{Pointer, index_of, resolve_mut};
 use relay_tree::{Element, Members, Node, Tree};
 use std::alloc::{AllocError, Global};
 
-/// What puts a removed value back into its list or object without allocating.
+/// Puts a removed value back into its list or object without allocating.
 ///
 /// `spare` has capacity for as many parts as the container had before the removal. If the container
 /// has no free capacity when the value comes back, its parts move to `spare`. No contract can say

@@ -9,39 +9,34 @@ ghost use Rattle.relay_patch.specs.Patch.{effect, within};
 ghost use Rattle.relay_patch.specs.After.{afforded, performed};
 ghost use Rattle.relay_patch.specs.Change.{Makes, Leads, changes_of};
 ghost use Rattle.relay_patch.specs.Measure.{is_transfer, Known};
-ghost use Rattle.relay_apply.specs.Steps.{brought_weight, listed, IsOverspent};
+ghost use Rattle.relay_apply.specs.Steps.{listed};
 ghost use Rattle.relay_apply.specs.Undo.{taken_back};
 ghost use Rattle.relay_patch.specs.Weight.{change_weight, changes_weight};
 ghost use Rattle.relay_patch.specs.declared.fault.Cause.TheVariants.{NoMemory, TooHeavy};
-ghost use Rattle.relay_patch.specs.declared.op.Op.TheVariants as op;
 
 use crate::change_of::change_of;
-use crate::insert_target::resolve_insert;
 use crate::keeping::{as_transfer, finish_transfer, make_keeping, make_with_undo};
 use crate::making::make;
 use crate::measuring::{displaced, gone, measure, weight_after};
 use crate::reinsertion::{reinsert, remove_with_undo};
 use crate::undo::Undo;
-use crate::walk::walk;
 use relay_patch::{Bounds, Cause, Change, Op};
-use relay_pointer::Pointer;
 use relay_tree::{Budget, Tree};
 use std::alloc::{AllocError, Global};
 
-/// What the operations so far have done to the document.
+/// The effects of the operations so far on the document.
 #[derive(Drop)]
 pub(crate) struct Done {
     pub(crate) changes: Vec<Change>,
     /// The weight of the document, once it is known to be within the bounds. Unspecified if the
     /// weight is not bounded.
     pub(crate) weight: Option<u64>,
-    /// What the changes of the operations to come may weigh.
+    /// The weight that the changes of the operations to come may have.
     pub(crate) left: Budget,
 }
 
 /// Performs one operation, which `following` others follow, and checks the bounds. Keeps what takes
 /// it back if others follow, and for a transfer in any case.
-#[tactic(auto, using(crate::proofs::Overspent::overspent))]
 pub(crate) fn perform(
     alloc: Global,
     tree: &mut Tree,
@@ -69,60 +64,8 @@ pub(crate) fn perform(
     ensures refused_back { OnErr result (taken_back tree.new kept.new.items
         ≡ taken_back tree.old kept.old.items) }
 {
-    if let Some(cause) = too_heavy(tree, op, done.left) {
-        return Err(cause);
-    }
-    let change = change_of(alloc, tree, op)?;
+    let change = change_of(alloc, tree, op, done.left)?;
     advance(alloc, tree, kept, done, change, bounds, following)
-}
-
-// Returns why an operation is refused if its value alone weighs more than is left for its change.
-// This comes first, so that no value is copied that is far too heavy. The walk over the value ends
-// where nothing is left.
-#[tactic(auto, using(relay_tree::proofs::Budgets::paid_nothing))]
-fn too_heavy(tree: &Tree, op: &Op, left: Budget) -> Option<Cause>
-    ensures refused { IfSome result (IsOverspent tree.now op.now left) }
-    ensures other { IfSome result (λ cause. cause ≢ NoMemory) }
-    ensures light { IfNone result (IsSome (paid (brought_weight op.now) left)) }
-{
-    match op {
-        Op::Add { path, value } => match value.pay(left) {
-            Some(_) => None,
-            None => Some(heavy_insertion(tree, path)),
-        },
-        Op::Replace { path, value } => match value.pay(left) {
-            Some(_) => None,
-            None => Some(heavy_replacement(tree, path)),
-        },
-        Op::Remove { .. } | Op::Move { .. } | Op::Copy { .. } | Op::Test { .. } => None,
-    }
-}
-
-// Returns why an insertion is refused whose value is too heavy: what its own checks find, or else
-// `TooHeavy`.
-#[tactic(auto, using(crate::proofs::Overspent::added_here, crate::proofs::Overspent::added_nowhere))]
-fn heavy_insertion(tree: &Tree, path: &Pointer) -> Cause
-    ensures refused { (v : Document) (left : Budget) → paid (weight v) left ≡ None
-        → IsOverspent tree.now (op.Add path.now v) left result }
-    ensures other { result ≢ NoMemory }
-{
-    match resolve_insert(tree, path.tokens()) {
-        Ok(_) => Cause::TooHeavy,
-        Err(cause) => cause,
-    }
-}
-
-// Returns the same for a replacement.
-#[tactic(auto, using(crate::proofs::Overspent::replaced_here, crate::proofs::Overspent::replaced_nowhere))]
-fn heavy_replacement(tree: &Tree, path: &Pointer) -> Cause
-    ensures refused { (v : Document) (left : Budget) → paid (weight v) left ≡ None
-        → IsOverspent tree.now (op.Replace path.now v) left result }
-    ensures other { result ≢ NoMemory }
-{
-    match walk(tree, path.tokens()) {
-        Ok(_) => Cause::TooHeavy,
-        Err(cause) => cause,
-    }
 }
 
 // Makes the change, if there is one, within the bounds.

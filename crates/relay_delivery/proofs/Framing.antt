@@ -1,4 +1,4 @@
--- What a write turn of a link says of the bytes that it framed.
+-- The promise of a write turn of a link about the bytes that it framed.
 use Rattle.std.proofs.Common.{◌≡◌, ◌≤◌, ℕ, ◌+◌, cond, List, [], ◌∷◌, ◌++◌, Option, Some, Result, Ok}
 use Rattle.std.proofs.Common.{Err, IfOk, subst, arith}
 use Rattle.std.proofs.lemmas.List.Sums.{sum_by-append}

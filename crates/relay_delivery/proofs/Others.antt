@@ -1,4 +1,4 @@
--- What other sessions do leaves a client where it is.
+-- The acts of other sessions leave a client where it is.
 use Rattle.std.proofs.Common.{◌≡◌, ℕ, ◌==◌, Bool, true, false, ◌∷◌, Option, None, arith}
 use Rattle.std.proofs.Common.{if◌then◌else◌}
 use Rattle.std.proofs.lemmas.Bool.Decides.{nat_tests}

@@ -1,4 +1,5 @@
--- What a follower holds after the frames of a turn, and why it may stop before their end.
+-- The state that a follower holds after the frames of a turn, and the causes for which it may stop
+-- before their end.
 use Rattle.std.proofs.Common.{◌≡◌, ◌≢◌, ℕ, Bool, true, false, List, [], ◌∷◌, ◌++◌, Option, Some}
 use Rattle.std.proofs.Common.{None, Result, Ok, Err, IfErr, OnOk, refl, sym, ◌∙◌, subst, nat_lt}
 use Rattle.std.proofs.Common.{if◌then◌else◌}

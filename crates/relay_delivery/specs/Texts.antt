@@ -47,7 +47,7 @@ pub record StopsAt (old new : Option (ℕ × Document)) (texts : List (List ℕ)
   pub holds : told_all (as_client old) heard ≡ Some (as_client new)
   pub why : Why new text
 
--- What comes of texts to a follower: it heard all of them, in order, or it stopped at one of them,
+-- The outcome of texts to a follower: it heard all of them, in order, or it stopped at one of them,
 -- and the fault is that of this text.
 pub record HearsAll {E : Type 0} (IsFault : E → Option (ℕ × Document) → List ℕ → Type 0)
     (old new : Option (ℕ × Document)) (texts : List (List ℕ))

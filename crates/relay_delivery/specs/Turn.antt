@@ -1,4 +1,4 @@
--- What a turn of a link brings to the client of its session.
+-- The texts that a turn of a link brings to the client of its session.
 use Rattle.std.specs.Prelude.{◌≡◌, ◌≢◌, ◌⊎◌, ⊤, ℕ, List, [], Option, None, Some, Ok, slice_get}
 use Rattle.std.specs.Prelude.{IsUtf8}
 use Rattle.std.specs.List.{AllByRecursion}
@@ -28,9 +28,9 @@ pub record FramedTurn (s : ℕ) (hub next : State) (events : List Event)
   pub utf8 : AllByRecursion IsUtf8 (drawn follows)
   pub frames_are : frames ≡ text_frames (drawn follows)
 
--- What the client of a session holds, if the session watches: what the messages drawn for it make
--- of what it held at the start of the watch. A watch that starts from nothing begins with a
--- snapshot, and until that comes the client may still hold what it held before.
+-- The state of a session's client, if the session watches: what the messages drawn for it make of
+-- what it held at the start of the watch. A watch that starts from nothing begins with a snapshot,
+-- and until that comes the client may still hold what it held before.
 abbrev pub Tracks : Client → Option Watching → Type 0
 Tracks c None = ⊤
 Tracks c (Some w) = (c ≡ client_after w.start w.heard) ⊎ ((w.start ≡ nothing) × (w.heard ≡ []))

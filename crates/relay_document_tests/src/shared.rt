@@ -32,7 +32,7 @@ pub(crate) fn shown<T: Debug + Drop>(alloc: Global, value: T) -> Option<String> 
     format!(in alloc; "{value:?}").ok()
 }
 
-/// What came of an act of which nothing is told.
+/// The outcome of an act of which nothing is told.
 pub(crate) fn nothing(alloc: Global) -> Option<String> {
     Some(String::new(alloc))
 }

@@ -1,4 +1,4 @@
-//! What the acts of rows are done on.
+//! The stage on which the acts of rows are done.
 use crate::change::changes_text;
 use crate::shared::{nothing, patch_of, view_of};
 use crate::tree;

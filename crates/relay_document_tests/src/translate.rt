@@ -192,7 +192,7 @@ fn watch(alloc: Global, index: &mut WatchIndex, act: &str) -> Option<String> {
     nothing(alloc)
 }
 
-// Which sessions at most one change touches.
+// The sessions that at most one change touches.
 fn sessions(alloc: Global, index: &WatchIndex, change: Option<&Change>) -> Option<String> {
     let found = match change {
         Some(change) => index.touched(alloc, &[change]),

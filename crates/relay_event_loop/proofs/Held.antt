@@ -1,4 +1,4 @@
--- What changes of the slab mean for the links of its connections.
+-- The meaning of the slab's changes for the links of its connections.
 use Rattle.std.proofs.Common.{◌≡◌, ◌≢◌, ℕ, Result, Ok, Err, IfOk, OnErr, List, [], Option, Some}
 use Rattle.std.proofs.Common.{None, refl, sym, ◌∙◌, ap, subst, inl, inr, option_map, arith, ◌<◌}
 use Rattle.std.proofs.Common.{◌≤◌, length, cond, is_some, get_or}

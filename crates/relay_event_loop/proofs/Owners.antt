@@ -43,7 +43,7 @@ one_each_same homes same each = record {
   all = λ s is. let found = each.all s (rw (homes s) at is) in (found.0, same found.0 ∙ found.1);
 }
 
--- Where an event leaves the sessions.
+-- The places at which an event leaves the sessions.
 
 in_room_homes : (index : ℕ) (o : Option (List ℕ
     × RoomSessions)) (old new : State) (answer : Answer) (Does : RoomSessions → RoomSessions

@@ -1,4 +1,4 @@
--- What a server does to its hub and to its connections' links: turns of links, one after another,
+-- The acts of a server to its hub and to its connections' links: turns of links, one after another,
 -- visits, its own events, and giving memory back when it was refused. Between turns links are added
 -- and removed, and none changes.
 use Rattle.std.specs.Prelude.{ℕ, ⊤, ◌≡◌, ◌≢◌, ◌≤◌, List, [], ◌∷◌, Option, Some, None, option_map}

@@ -1,5 +1,5 @@
--- What of a server is counted: its connections and its rounds; and whether the hub accepts a
--- request of a connection.
+-- The parts of a server that are counted: its connections and its rounds; and whether the hub
+-- accepts a request of a connection.
 use Rattle.std.specs.Prelude.{ℕ, ◌+◌, ◌-◌, ◌/◌, ◌^◌, min, max, Bool, true, Option, Some, None}
 use Rattle.relay_hub.specs.State.{State, session_of}
 use Rattle.relay_hub.specs.Queries.{may_hear}

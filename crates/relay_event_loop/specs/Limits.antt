@@ -1,4 +1,4 @@
--- What a server keeps to besides its limit on connections: how far it reads a room ahead, how much
+-- The limits of a server besides that on connections: how far it reads a room ahead, how much
 -- output its links hold, and whether it forgets rooms.
 use Rattle.std.specs.Prelude.{ℕ, ◌-◌, ◌/◌, ◌^◌, max, Bool}
 use Rattle.relay_tree.specs.declared.budget.Budget.{Budget}

@@ -1,4 +1,4 @@
--- Why a handshake was refused, as the log says it.
+-- The cause for which a handshake was refused, as the log says it.
 use Rattle.std.specs.Prelude.{ℕ}
 use Rattle.relay_hub.specs.declared.fault.OpenFault.{OpenFault}
 use Rattle.relay_hub.specs.declared.fault.OpenFault.TheVariants as fault

@@ -1,4 +1,4 @@
--- What rounds of a server promise: the hub goes on standing for a log, and each open session is
+-- The promise of a server's rounds: the hub goes on standing for a log, and each open session is
 -- that of exactly one connection.
 use Rattle.std.specs.Prelude.{ℕ, ◌≡◌, List, Option, Some, IsSome}
 use Rattle.relay_hub.specs.Log.{Log}

@@ -8,7 +8,7 @@ ghost use Rattle.relay_event_loop.specs.Ready.{IsFreshOn};
 
 use crate::connection_log::{ConnectionId, HandshakeRefusal, RoomSession};
 use crate::ready::{StreamReadiness, TrackedStream};
-use relay_hub::{Event, Hub, OpenFault};
+use relay_hub::{Hub, OpenFault};
 use relay_link::{Link, Stage, Turn};
 use relay_operator::StreamReady;
 use relay_schedule::{Credit, LinkOutput, Output, Wants};
@@ -20,14 +20,12 @@ use std::net::SocketAddr;
 /// The most bytes of a room's name.
 const MAX_NAME: usize = 64;
 
-/// What rounds know of a connection. It is kept in a cell: no contract speaks of it.
+/// The state of a connection that rounds know. It is kept in a cell: no contract speaks of it.
 #[derive(Clone, Copy)]
 pub(crate) struct Standing {
     credit: Credit,
-    /// Whether its room counts it among those that wait to be written to.
+    /// True if its room counts it among those that wait to be written to.
     is_counted: bool,
-    /// How many of the messages that wait are replies. They leave before all others.
-    pub replies: u64,
     pub output: LinkOutput,
 }
 
@@ -36,7 +34,7 @@ pub(crate) struct Standing {
 pub(crate) struct Connection<S: Write + Drop> {
     pub link: Link<TrackedStream<S>>,
     pub readiness: StreamReadiness,
-    /// Whether something became ready since the last read turn of the link, or that turn left
+    /// True if something became ready since the last read turn of the link, or that turn left
     /// something to read in the stream.
     pub read_pending: bool,
     /// Its position in the order of arrival, from 0.
@@ -52,7 +50,7 @@ pub(crate) struct Connection<S: Write + Drop> {
     /// index in the hub.
     room: String,
     room_index: Option<usize>,
-    /// Why the hub opened none.
+    /// The cause for which the hub opened none.
     fault: Option<OpenFault>,
 }
 
@@ -79,7 +77,6 @@ impl<S: Read + Write + Drop> Connection<S> {
             standing: Cell::new(Standing {
                 credit,
                 is_counted: false,
-                replies: 0,
                 output: LinkOutput::NONE,
             }),
             peer,
@@ -107,7 +104,7 @@ impl<S: Read + Write + Drop> Connection<S> {
         self.fault = Some(fault);
     }
 
-    /// Who it is, for the log.
+    /// Its identity, for the log.
     pub(crate) fn id(&self, key: usize) -> ConnectionId {
         ConnectionId {
             key,
@@ -131,8 +128,8 @@ impl<S: Read + Write + Drop> Connection<S> {
         self.room_index
     }
 
-    /// Why its handshake was refused with this status. A hub that was not asked for a session gave
-    /// no reason: then 503 says that clients may not enter.
+    /// The cause for which its handshake was refused with this status. A hub that was not asked for
+    /// a session gave no reason: then 503 says that clients may not enter.
     pub(crate) fn refusal(&self, status: u16) -> HandshakeRefusal {
         match self.fault {
             Some(fault) => HandshakeRefusal::of(fault),
@@ -172,22 +169,28 @@ impl<S: Read + Write + Drop> Connection<S> {
         let before = standing.output;
         let taken = self.readiness.take_written();
         standing.output.note(turn.drawn, taken, second);
-        standing.replies = replies_after(standing.replies, turn);
         self.standing.set(standing);
         before
     }
 
-    /// What rounds know of it.
+    /// The state that rounds know of it.
     pub(crate) fn standing(&self) -> Standing {
         self.standing.get()
     }
 
-    /// Whether a snapshot may wait for it: one message besides the replies. Several are patches.
-    pub(crate) fn may_be_due(&self, hub: &Hub) -> bool {
-        let waiting = self.standing().replies.saturating_add(1);
+    /// True if a snapshot is due for its session.
+    pub(crate) fn is_due(&self, hub: &Hub) -> bool {
         match self.link.session() {
-            Some(session) => hub.waiting(session) == Some(waiting),
+            Some(session) => hub.is_due(session),
             None => false,
+        }
+    }
+
+    /// The number of replies that wait for its session. They leave before all other messages.
+    pub(crate) fn replies(&self, hub: &Hub) -> u64 {
+        match self.link.session() {
+            Some(session) => hub.replies(session).unwrap_or(0),
+            None => 0,
         }
     }
 
@@ -209,7 +212,7 @@ impl<S: Read + Write + Drop> Connection<S> {
         }
     }
 
-    /// Whether a read turn might do something: something became ready, or the link is not idle, and
+    /// True if a read turn might do something: something became ready, or the link is not idle, and
     /// the hub has space for a reply.
     pub(crate) fn may_read(&self, hub: &Hub) -> bool
         ensures { result ≡ (self.now.read_pending || not (is_idle self.now.link))
@@ -234,7 +237,7 @@ impl<S: Read + Write + Drop> Connection<S> {
         }
     }
 
-    /// Whether the link has such output that could be sent.
+    /// True if the link has such output that could be sent.
     pub(crate) fn has_output(&self, hub: &Hub, output: Output) -> bool {
         self.readiness.is_writable()
             && match (output, self.link.session()) {
@@ -245,7 +248,7 @@ impl<S: Read + Write + Drop> Connection<S> {
             }
     }
 
-    /// Whether anything waits to be written to the session, whether the stream is writable or not.
+    /// True if anything waits to be written to the session, whether the stream is writable or not.
     pub(crate) fn has_unsent(&self, hub: &Hub) -> bool {
         match self.link.session() {
             Some(session) => {
@@ -257,33 +260,17 @@ impl<S: Read + Write + Drop> Connection<S> {
         }
     }
 
-    /// Whether the link waits for the other side's close.
+    /// True if the link waits for the other side's close.
     pub(crate) fn is_closing(&self) -> bool
         ensures { IsTrue result ↔ (stage_of self.now.link ≡ Closing) }
     {
         self.link.stage() == Stage::Closing
     }
 
-    /// Whether the connection has no session: none was opened, or it is closed.
+    /// True if the connection has no session: none was opened, or it is closed.
     pub(crate) fn has_no_session(&self) -> bool
         ensures { result ≡ is_none (session_of self.now.link) }
     {
         self.link.session().is_none()
     }
-}
-
-/// How many replies wait after a turn. A session begins with one.
-fn replies_after(before: u64, turn: &Turn) -> u64 {
-    let mut replies = before;
-    for event in turn.events.iter() {
-        replies = match event {
-            Event::Open { .. } => 1,
-            Event::Receive { .. } => replies.saturating_add(1),
-            Event::Draw { .. } => replies.saturating_sub(1),
-            Event::Close { .. } => 0,
-            // These are no link's.
-            Event::DoWill | Event::Forget { .. } => replies,
-        };
-    }
-    replies
 }

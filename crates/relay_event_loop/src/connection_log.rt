@@ -75,7 +75,7 @@ pub struct RoomSession<'a> {
     pub room: &'a str,
 }
 
-/// Why a handshake was refused.
+/// The cause for which a handshake was refused.
 ///
 /// ```
 /// let refusal = HandshakeRefusal::SessionsFull;

@@ -10,7 +10,7 @@ use std::io;
 use std::io::{Error, ErrorKind, Read, Write};
 use std::rc::Rc;
 
-/// What is known of a stream, shared by the stream and the rounds that receive its events.
+/// The known state of a stream, shared by the stream and the rounds that receive its events.
 #[derive(Drop)]
 pub(crate) struct StreamReadiness {
     state: Rc<Cell<StreamState>>,
@@ -19,7 +19,8 @@ pub(crate) struct StreamReadiness {
 #[derive(Clone, Copy, Debug, PartialEq, Eq)]
 struct StreamState {
     ready: StreamReady,
-    /// How many bytes were read since that was last asked, and how many were written.
+    /// The number of bytes that were read since that was last asked, and of those that were
+    /// written.
     read: u64,
     written: u64,
 }
@@ -46,12 +47,12 @@ impl StreamReadiness {
         self.state.set(state);
     }
 
-    /// What the stream is ready for.
+    /// The operations that the stream is ready for.
     pub(crate) fn ready(&self) -> StreamReady {
         self.state.get().ready
     }
 
-    /// Whether another read turn may read bytes, or the end, without a new event: a turn that has
+    /// True if another read turn may read bytes, or the end, without a new event: a turn that has
     /// unsent output reads nothing.
     pub(crate) fn may_go_on(&self) -> bool {
         self.ready().readable && self.is_writable()
@@ -61,7 +62,7 @@ impl StreamReadiness {
         self.ready().writable
     }
 
-    /// How many bytes were read since this was last asked.
+    /// Returns the number of bytes that were read since this was last asked.
     pub(crate) fn take_read(&self) -> u64 {
         let mut state = self.state.get();
         let read = state.read;
@@ -70,7 +71,7 @@ impl StreamReadiness {
         read
     }
 
-    /// How many bytes were written since this was last asked.
+    /// Returns the number of bytes that were written since this was last asked.
     pub(crate) fn take_written(&self) -> u64 {
         let mut state = self.state.get();
         let written = state.written;

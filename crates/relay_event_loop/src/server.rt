@@ -37,8 +37,8 @@ use std::alloc::Global;
 use std::io::{Read, Write};
 use std::net::{OpenListener, OpenStream};
 
-/// How many connections a server holds at most if its hub allows so many sessions: a quarter more,
-/// and at least 64 more. The extra ones are in their handshake, or closing.
+/// The maximum number of connections that a server holds if its hub allows so many sessions: a
+/// quarter more, and at least 64 more. The extra ones are in their handshake, or closing.
 ///
 /// ```
 /// assert!(rt; connection_limit(256) == 256 + 64);
@@ -81,26 +81,28 @@ pub struct Server<S: Write + Drop, R> {
     max_connections: usize,
     readiness: R,
     events: Vec<ReadyEvent>,
-    /// Whether a connection may wait to be accepted.
+    /// True if a connection may wait to be accepted.
     accept_ready: bool,
-    /// Whether the last accept failed by another error than `WouldBlock`.
+    /// True if the last accept failed by another error than `WouldBlock`.
     accept_failed: bool,
     /// The connections that may have a turn.
     queues: Queues,
-    /// How far each room is read ahead.
+    /// The extent to which each room is read ahead.
     rooms: ReadAheadByRoom,
-    /// Which room is forgotten for another one.
+    /// The room that is forgotten for another one.
     vacancies: RoomVacancies,
-    /// What all links hold of output.
+    /// The output that all links hold.
     output: OutputTotal,
-    /// How many texts were passed to the hub.
+    /// The number of texts that were passed to the hub.
     texts_heard: u64,
-    /// How many wills were done.
+    /// The number of wills that were done, those refused among them.
     wills_done: u64,
     /// The key of the connection that has a session, by the session's number.
     sessions: IndexMap<u64, usize>,
     rounds: u64,
-    /// How many seconds have passed, by [`ReadyEvent::Second`].
+    /// The time at which the last turn ended, by [`Readiness::micros`].
+    lap_end: u64,
+    /// The number of seconds that have passed, by [`ReadyEvent::Second`].
     seconds: u64,
     /// The first round in which the log may say again that memory was refused.
     next_shed_entry: u64,
@@ -151,6 +153,7 @@ impl<S: Read + Write + OpenStream + Drop, R: Readiness<S>> Server<S, R> {
             wills_done: 0,
             sessions: IndexMap::new(alloc),
             rounds: 0,
+            lap_end: 0,
             seconds: 0,
             next_shed_entry: 0,
             next_arrival: 0,
@@ -184,8 +187,9 @@ impl<S: Read + Write + OpenStream + Drop, R: Readiness<S>> Server<S, R> {
     /// - reads: each connection that has credit, may have input, has no waiting reply that can be
     ///   sent first, and whose room may be read ahead gets a read turn; the one that had its turn
     ///   last comes last. The turn passes at most one text to the hub, and draws one message, which
-    ///   is corked, or none if a large snapshot may be due. This repeats until a pass passes no
-    ///   text to the hub, or the turns have cost 5 ms, as the hub estimates it
+    ///   is corked, or none if a large snapshot is due. This repeats until a pass passes no text to
+    ///   the hub, or the turns have cost 5 ms. A turn costs the time that it took by the clock of
+    ///   the readiness ([`Readiness::micros`]), and at least what the hub counts
     ///   ([`relay_hub::Hub::cost`]);
     /// - writes: each link with corked output, and then each for which something waits, whose
     ///   stream is writable, gets a write turn, which draws and sends up to 32 messages, each time
@@ -214,8 +218,8 @@ impl<S: Read + Write + OpenStream + Drop, R: Readiness<S>> Server<S, R> {
     /// Once the links hold as much output as they may, no snapshot of a document that weighs more
     /// than 4,096 is drawn. A link's buffer never shrinks. So while that much is held, up to 64
     /// links are ended each second, the largest buffer first: links that hold at least the average
-    /// of all links, and that have sent everything, or whose stream took nothing for 30 seconds. It
-    /// stops once half of the limit is free.
+    /// of all links, and that have sent everything, or whose stream took less than a sixteenth of
+    /// what waited in 30 seconds. It stops once half of the limit is free.
     ///
     /// Proved of a round: the hub changes by turns, visits, wills, forgetting and
     /// [`relay_hub::Hub::shed`] alone, and goes on standing for its log (`rounds`); one round is
@@ -294,9 +298,9 @@ impl<S: Read + Write + OpenStream + Drop, R: Readiness<S>> Server<S, R> {
     }
 }
 
-/// How far a room may be read ahead: by half of what may wait for a session, at least one text. So
-/// no watcher that keeps up is folded by the number of its patches. By their weight it may be,
-/// since a short text can make a heavy change.
+/// The extent to which a room may be read ahead: by half of what may wait for a session, at least
+/// one text. So no watcher that keeps up is folded by the number of its patches. By their weight it
+/// may be, since a short text can make a heavy change.
 fn read_ahead_limits(config: HubConfig) -> ReadAheadLimits
     ensures { result ≡ read_ahead_limits config }
 {

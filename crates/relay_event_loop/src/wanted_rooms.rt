@@ -1,7 +1,7 @@
 //! The rooms that clients asked for, and may not enter.
 use std::alloc::Global;
 
-/// How many names are kept at most.
+/// The maximum number of names that are kept.
 const MAX_WANTED: usize = 64;
 
 /// The names of rooms from which clients were turned away, each once, the oldest first. A new one

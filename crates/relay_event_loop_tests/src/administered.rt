@@ -24,8 +24,8 @@ impl Clock for Still {
     }
 }
 
-/// What a client and an operator ask, and what comes of a server that runs for at most so many
-/// rounds.
+/// The requests of a client and an operator, and the outcome of a server that runs for at most so
+/// many rounds.
 const ROWS: &str = r#"
 # The rooms are told, and at the end of all rounds the client is sent away.
 client asks 13 /rooms/r

@@ -10,10 +10,10 @@ use std::cell::{RefCell, RefMut};
 use std::mem;
 use std::process::Abort;
 
-/// How many wires there are.
+/// The number of wires.
 const WIRES: usize = 19;
 
-/// What the reply to an accepted edit has.
+/// The part that the reply to an accepted edit has.
 const DONE: &str = r#""kind":"done""#;
 
 /// A client edits.
@@ -39,7 +39,8 @@ const OVER: StreamReady = StreamReady {
     ..READABLE
 };
 
-/// What `enters` stands for: the first client of a new server connects, and receives its welcome.
+/// The acts that `enters` stands for: the first client of a new server connects, and receives its
+/// welcome.
 const ENTERS: &str = "
 connect 0
 wire 0 asks 13 /rooms/r
@@ -47,13 +48,13 @@ round => 1, 1r2w 101 welcome, 0r0w
 round => 1 sleeps, 0r0w, 0r0w
 ";
 
-/// What `watches` stands for: the first client watches the whole document.
+/// The acts that `watches` stands for: the first client watches the whole document.
 const WATCHES: &str = r#"
 send 0 says {"do":"watch","id":1,"view":[""]}
 round => 1 sleeps, 1r1w watching snapshot, 0r0w
 "#;
 
-/// What `joins` stands for: a second client connects, and receives its welcome.
+/// The acts that `joins` stands for: a second client connects, and receives its welcome.
 const JOINS: &str = "
 connect 1
 wire 1 asks 13 /rooms/r
@@ -112,7 +113,8 @@ impl<R: AllocGlobal> Subject<R> for Clients<'_> {
     ///   `each N ACT` does an act of each of the first wires;
     /// - `readable K` and `writable K` announce that a stream is ready, `over K` that it is
     ///   readable, and over; `capacity N` that the next wait has space for so many events, and
-    ///   `wait-fails` that it fails; `second` that a second has passed;
+    ///   `wait-fails` that it fails; `second` that a second has passed; `turns-take N` that from
+    ///   now on each turn takes so many microseconds;
     /// - `round` runs a round, and `rounds N` so many, which are not told; `sleep` runs rounds
     ///   until one could have slept;
     /// - `connections` tells how many there are; `done K`, `count K PART` and `writes K` tell how
@@ -185,7 +187,8 @@ impl<'a> Clients<'a> {
         told_whether(alloc, self.server.log.text.contains(words.as_str()))
     }
 
-    /// How often a part stands in what was written to a client since the last such question.
+    /// The number of times that a part stands in what was written to a client since the last such
+    /// question.
     fn count(&self, key: &str, part: &str) -> Option<u64> {
         let mut wire = self.wire(key)?;
         let mut count = 0u64;
@@ -197,7 +200,7 @@ impl<'a> Clients<'a> {
         Some(count)
     }
 
-    /// How many writes of a wire there were since the last such question.
+    /// The number of writes of a wire since the last such question.
     fn writes(&self, key: &str) -> Option<u64> {
         Some(mem::replace(&mut self.wire(key)?.write_calls, 0))
     }
@@ -230,6 +233,7 @@ impl<'a> Clients<'a> {
             "over" => self.announce(rest, OVER),
             "capacity" => self.server.limit_next_wait(key_of(rest)?),
             "wait-fails" => self.server.fail_next_wait(),
+            "turns-take" => self.server.set_lap(number(rest)?),
             "second" => self.server.add(ReadyEvent::Second),
             _ => None,
         }
@@ -303,7 +307,8 @@ impl<'a> Clients<'a> {
         format!(in alloc; "{own} and {others} of the others, {writes} writes").ok()
     }
 
-    /// How many edits of the clients before this one were accepted since the last such question.
+    /// The number of edits of the clients before this one that were accepted since the last such
+    /// question.
     fn done_before(&self, alloc: Global, key: u64) -> Option<u64> {
         let mut count = 0u64;
         for other in 0..key {

@@ -7,7 +7,7 @@ use relay_test_stream::play;
 use std::alloc::{AllocGlobal, Global};
 use std::process::Abort;
 
-/// How many clients there are, and how many of them stay to the end: the others may break off.
+/// The number of clients, and of those that stay to the end: the others may break off.
 const CLIENTS: u64 = 6;
 
 const STAYING: u64 = 4;
@@ -53,8 +53,8 @@ fn step(numbers: &mut Numbers, client: u64) -> &'static str {
     }
 }
 
-/// What ends a connection, if it is one that does not stay. Otherwise the system cannot say what is
-/// ready.
+/// The act that ends a connection, if it is one that does not stay. Otherwise the system cannot say
+/// what is ready.
 fn break_off(numbers: &mut Numbers, client: u64) -> &'static str {
     if client < STAYING {
         "wait-fails"

@@ -1,4 +1,4 @@
-//! Which rooms are forgotten, so that another one has a place.
+//! The rooms that are forgotten, so that another one has a place.
 use crate::clients::play_anew;
 
 /// Rooms that are taken, and who finds a place.

@@ -1,7 +1,7 @@
 //! The log: which entries a connection's life makes, and what they say.
 use crate::clients::play_anew;
 
-/// What happens, and the lines of the log, each with its end, `\n`.
+/// The acts, and the lines of the log, each with its end, `\n`.
 const ROWS: &str = r#"
 # A line for each opening, each refusal and each end, which names the session and the room again.
 enters

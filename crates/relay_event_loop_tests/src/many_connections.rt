@@ -1,7 +1,7 @@
 //! Many connections of one server.
 use crate::clients::play_anew;
 
-/// Which connections a server holds. Those of one wire open a session each, and those of another
+/// The connections that a server holds. Those of one wire open a session each, and those of another
 /// send nothing.
 const ROWS: &str = r#"
 # 400 silent connections do not keep out a client that sends its handshake, and no connection with a session is ended for it.

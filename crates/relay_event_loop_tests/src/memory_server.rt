@@ -10,7 +10,7 @@ use std::net::{Ipv4Addr, OpenListener, SocketAddr};
 use std::time::Duration;
 use std::{io, mem};
 
-/// How many bytes of output the links of a server hold.
+/// The number of bytes of output that the links of a server hold.
 const MOST_OUTPUT: u64 = 1_000_000;
 
 fn busy() -> io::Error {
@@ -56,12 +56,16 @@ impl<'a> OpenListener for MemoryListener<'a> {
 pub(crate) struct ReadinessScript {
     /// The events of the next round.
     next: Vec<ReadyEvent>,
-    /// How many events the next wait has space for. The others come with the wait after it.
+    /// The number of events that the next wait has space for. The others come with the wait after
+    /// it.
     capacity: usize,
-    /// Whether the next wait fails, after the events that it has space for; the others are lost.
+    /// True if the next wait fails, after the events that it has space for; the others are lost.
     fails: bool,
     /// The time limit of the last wait, in milliseconds.
     waited: u64,
+    /// The clock, and by how much each look at it moves it on, in microseconds.
+    clock: u64,
+    lap: u64,
 }
 
 /// Reports the events that the test set.
@@ -77,12 +81,20 @@ impl ReadinessScript {
             capacity: usize::MAX,
             fails: false,
             waited: 0,
+            clock: 0,
+            lap: 0,
         })
     }
 
     /// Adds an event to the next wait.
     pub fn add(&mut self, event: ReadyEvent) -> Option<()> {
         self.next.push(event).ok()
+    }
+
+    /// The time by the clock, which each call moves on.
+    fn tick(&mut self) -> u64 {
+        self.clock = self.clock.saturating_add(self.lap);
+        self.clock
     }
 
     fn wait(&mut self, most: Duration, events: &mut Vec<ReadyEvent>) -> io::Result<()> {
@@ -118,6 +130,13 @@ impl<'a> Readiness<End<'a>> for ScriptedReadiness<'_> {
         match self.script.try_borrow_mut() {
             Ok(mut script) => script.wait(most, events),
             Err(_) => Err(busy()),
+        }
+    }
+
+    fn micros(&self) -> u64 {
+        match self.script.try_borrow_mut() {
+            Ok(mut script) => script.tick(),
+            Err(_) => 0,
         }
     }
 }
@@ -186,7 +205,13 @@ impl<'a> MemoryServer<'a> {
         Some(())
     }
 
-    /// What the next round learns of the streams.
+    /// From now on each turn takes so long, in microseconds.
+    pub fn set_lap(&self, micros: u64) -> Option<()> {
+        self.script()?.lap = micros;
+        Some(())
+    }
+
+    /// The script of what the next round learns of the streams.
     fn script(&self) -> Option<RefMut<'a, ReadinessScript>> {
         self.script.try_borrow_mut().ok()
     }

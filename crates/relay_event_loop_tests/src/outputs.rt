@@ -1,4 +1,4 @@
-//! What links hold of output: the snapshots that wait once that is as much as may be, and who is
+//! The output that links hold: the snapshots that wait once that is as much as may be, and who is
 //! ended for it. A server of the tests holds a million bytes.
 use crate::clients::play_anew;
 
@@ -29,7 +29,7 @@ count 1 "kind":"snapshot" => 1
 logs cause=full => true
 sleep
 
-# Meanwhile whoever is in a room of a small document is told of its edits, and several patches wait for nothing.
+# Meanwhile whoever is in a room of a small document is shown it, and a patch waits for nothing, whatever its document.
 each 3 enter
 connect 3
 wire 3 asks 13 /rooms/s
@@ -48,10 +48,10 @@ count 3 "kind":"snapshot" => 1
 clear 1
 send 2 says {"do":"edit","id":1,"patch":[{"op":"add","path":"/a","value":2}]}
 rounds 3
-count 1 "kind":"patch" => 0
+count 1 "kind":"patch" => 1
 send 2 says {"do":"edit","id":1,"patch":[{"op":"add","path":"/a","value":3}]}
 rounds 3
-count 1 "kind":"patch" => 2
+count 1 "kind":"patch" => 1
 sleep
 
 # The link that took all of a long message is ended too, since its buffer stays as large.

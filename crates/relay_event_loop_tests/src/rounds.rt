@@ -1,7 +1,7 @@
-//! What a round reads and writes, and when it sleeps.
+//! The reads and writes of a round, and the times at which it sleeps.
 use crate::clients::play_anew;
 
-/// What the streams of two clients do, and what the rounds come to.
+/// The acts of the streams of two clients, and the outcome of the rounds.
 const ROWS: &str = r#"
 # A server sleeps where there is nothing to do.
 enters

@@ -3,38 +3,71 @@ use crate::numbers::Numbers;
 use relay_schedule::{Credit, ROUND_CREDIT, ReadyQueue};
 use std::alloc::{AllocGlobal, Global};
 
-/// How many schedules there are, how many steps each has, and for how many keys.
+/// The number of schedules, of the steps of each, and of its keys.
 const SCHEDULES: u64 = 1_000;
 
 const STEPS: u64 = 40;
 
 const KEYS: u64 = 5;
 
-/// Those with credit and those who owe, each in the order in which they came.
+/// One line as two lists, each in order: the keys that the pass has still to visit, and the others.
+#[derive(Drop)]
+struct Line {
+    waiting: Vec<usize>,
+    others: Vec<usize>,
+}
+
+impl Line {
+    fn new(alloc: Global) -> Line {
+        Line {
+            waiting: Vec::new(alloc),
+            others: Vec::new(alloc),
+        }
+    }
+
+    fn contains(&self, key: usize) -> bool {
+        self.waiting.contains(&key) || self.others.contains(&key)
+    }
+
+    fn pop(&mut self) -> Option<usize> {
+        if self.waiting.is_empty() {
+            None
+        } else {
+            Some(self.waiting.remove(0))
+        }
+    }
+
+    fn begin_pass(&mut self) -> Option<()> {
+        for key in self.others.iter() {
+            self.waiting.push(*key).ok()?;
+        }
+        self.others.clear();
+        Some(())
+    }
+}
+
+/// Those with credit and those who owe.
 #[derive(Drop)]
 struct Model {
-    credited: Vec<usize>,
-    owing: Vec<usize>,
+    credited: Line,
+    owing: Line,
 }
 
 impl Model {
-    fn push(&mut self, key: usize, owes: bool) -> Option<()> {
-        if self.credited.contains(&key) || self.owing.contains(&key) {
+    /// Puts a key that stands in no line behind all others, or behind those of the pass alone.
+    fn put(&mut self, key: usize, owes: bool, is_skipped: bool) -> Option<()> {
+        if self.credited.contains(key) || self.owing.contains(key) {
             return Some(());
         }
-        self.line(owes).push(key).ok()
-    }
-
-    fn pop(&mut self, owes: bool) -> Option<usize> {
         let line = self.line(owes);
-        if line.is_empty() {
-            None
+        if is_skipped {
+            line.waiting.push(key).ok()
         } else {
-            Some(line.remove(0))
+            line.others.push(key).ok()
         }
     }
 
-    fn line(&mut self, owes: bool) -> &mut Vec<usize> {
+    fn line(&mut self, owes: bool) -> &mut Line {
         if owes {
             &mut self.owing
         } else {
@@ -57,8 +90,8 @@ impl Pair {
         Some(Pair {
             queue,
             model: Model {
-                credited: Vec::new(alloc),
-                owing: Vec::new(alloc),
+                credited: Line::new(alloc),
+                owing: Line::new(alloc),
             },
         })
     }
@@ -66,15 +99,34 @@ impl Pair {
     /// A step, as the numbers have it. Returns whether both came to the same.
     fn step(&mut self, numbers: &mut Numbers) -> Option<bool> {
         let owes = numbers.below(2) == 0;
-        if numbers.below(3) == 0 {
-            return Some(self.pop(owes));
+        match numbers.below(6) {
+            0 | 1 => return Some(self.pop(owes)),
+            2 => self.begin_pass(owes)?,
+            3 => self.put(numbers.below(KEYS) as usize, owes, true)?,
+            _ => self.put(numbers.below(KEYS) as usize, owes, false)?,
         }
-        let key = numbers.below(KEYS) as usize;
+        Some(true)
+    }
+
+    fn put(&mut self, key: usize, owes: bool, is_skipped: bool) -> Option<()> {
         let spent = if owes { ROUND_CREDIT } else { ROUND_CREDIT - 1 };
         let round = self.queue.round();
-        self.queue.push(key, Credit { spent, round });
-        self.model.push(key, owes)?;
-        Some(true)
+        let credit = Credit { spent, round };
+        if is_skipped {
+            self.queue.skip(key, credit);
+        } else {
+            self.queue.push(key, credit);
+        }
+        self.model.put(key, owes, is_skipped)
+    }
+
+    fn begin_pass(&mut self, owes: bool) -> Option<()> {
+        if owes {
+            self.queue.begin_owing_pass();
+        } else {
+            self.queue.begin_credited_pass();
+        }
+        self.model.line(owes).begin_pass()
     }
 
     fn pop(&mut self, owes: bool) -> bool {
@@ -83,7 +135,7 @@ impl Pair {
         } else {
             self.queue.pop_credited()
         };
-        popped == self.model.pop(owes)
+        popped == self.model.line(owes).pop()
     }
 }
 

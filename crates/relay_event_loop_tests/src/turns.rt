@@ -1,7 +1,7 @@
-//! Whose turn it is: who has credit first, then who owes, and no room beyond its share.
+//! The order of turns: who has credit first, then who owes, and no room beyond its share.
 use crate::clients::play_anew;
 
-/// What clients send, and whose edits were accepted in which round.
+/// The texts that clients send, and the clients whose edits were accepted, by round.
 const ROWS: &str = r#"
 # A client that costs little has its answer in each round, before the one turn of those who owe whose text costs more than a round: it is sent the patches of the two edits by two writes.
 server waiting=256
@@ -31,6 +31,27 @@ each 19 enter
 each 18 send says {"do":"edit","id":2,"patch":[{"op":"add","path":"","value":7}]}
 rounds 1
 done-before 18 => 18
+
+# A turn costs the time that it takes, whatever the hub counts: of those who owe one has its turn in a round.
+server waiting=256
+each 19 enter
+turns-take 6000
+each 18 send says {"do":"edit","id":2,"patch":[{"op":"add","path":"","value":7}]}
+2 rounds 1
+done-before 18 => 2
+rounds 1
+done-before 18 => 1
+
+# Who was skipped comes before who was served: eight texts of a room are read in a round, one from each of 18 connections before a second one from any.
+server waiting=16
+each 18 enter
+4 each 18 wire says {"do":"edit","id":2,"patch":[{"op":"add","path":"","value":7}]}
+each 18 readable
+rounds 4
+done 0 => 2
+done 13 => 2
+done 14 => 1
+done 17 => 1
 
 # A room is said half as many texts as patches may wait for a watcher, and no more before all its connections were written to.
 server waiting=32

@@ -1,7 +1,7 @@
-//! What becomes of the will of a session that ends.
+//! The outcome of the will of a session that ends.
 use crate::clients::play_anew;
 
-/// What clients leave to be done, and what the others are told of it.
+/// The edits that clients leave to be done, and what the others are told of them.
 const ROWS: &str = r#"
 # A session whose stream breaks off leaves its will, of which a watcher is told in the same round.
 enters

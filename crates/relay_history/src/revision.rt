@@ -10,7 +10,7 @@ use relay_tree::Budget;
 use std::alloc::{AllocError, Global};
 use std::marker::Model;
 
-/// What a change weighs in a history besides its paths and its value, so that weight also bounds
+/// The weight of a change in a history besides its paths and its value, so that weight also bounds
 /// the number of the changes that are held.
 pub const CHANGE_WEIGHT: u64 = 64;
 

@@ -3,7 +3,7 @@ ghost use Rattle.std.specs.Prelude.{◌≡◌, OnOk, OnErr, IfErr, true, false};
 
 use std::alloc::AllocError;
 
-/// Why a head is not accepted.
+/// The cause for which a head is not accepted.
 ///
 /// ```
 /// let refused: Result<(), Fault<u16>> = demand(false, 404);

@@ -23,7 +23,7 @@ pub struct Head<'h, 'b> {
     /// The digit after `HTTP/1.`.
     pub minor: u8,
     pub fields: &'h [Header<'b>],
-    /// Whether any byte follows the head.
+    /// True if any byte follows the head.
     pub has_surplus: bool,
 }
 

@@ -5,7 +5,7 @@ ghost use Rattle.relay_http_head.specs.Parsing.{IsParsed, IsBeforeHead};
 
 use httparse::{Error, Request, Status};
 
-/// What bytes begin with.
+/// The state of the head that bytes begin with.
 ///
 /// ```
 /// let mut fields = [EMPTY_HEADER; 16];

@@ -1,4 +1,4 @@
--- What is known of a request that is admitted, and of one that is not.
+-- Facts of a request that is admitted, and of one that is not.
 use Rattle.std.proofs.Common.{◌≡◌, ℕ, zero, suc, ◌+◌, ◌≤◌, ◌<◌, drop, slice_get, option_map, Bool}
 use Rattle.std.proofs.Common.{true, false, List, [], ◌∷◌, length, Option, Some, None, Result, Ok}
 use Rattle.std.proofs.Common.{Err, refl, sym, ◌∙◌, ap, subst, arith, if◌then◌else◌}

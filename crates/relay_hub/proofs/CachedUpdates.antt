@@ -1,4 +1,4 @@
--- What is kept of the updates of one edit.
+-- The updates of one edit that are kept.
 use Rattle.std.proofs.Common.{◌≡◌, ◌⊎◌, inl, inr, ℕ, zero, suc, Bool, true, false, ◌||◌, List, []}
 use Rattle.std.proofs.Common.{◌∷◌, take, ◌<◌, length, slice_index_or, if◌then◌else◌, Some, Result}
 use Rattle.std.proofs.Common.{Ok, Err, IfOk, rules, arith, refl, sym, subst, ap, ◌∙◌}

@@ -1,4 +1,4 @@
--- What a client that follows a view holds, as messages arrive.
+-- The contents of a client that follows a view, as messages arrive.
 use Rattle.std.proofs.Common.{◌≡◌, ℕ, ◌<◌, Bool, true, false, List, [], ◌∷◌, ◌++◌, Option, Some}
 use Rattle.std.proofs.Common.{None, Ok, refl, sym, ◌∙◌, ap, subst, arith, append_assoc, append-nil}
 use Rattle.std.proofs.Common.{length-append, slice_get, option_map, nat_lt, map, if◌then◌else◌}

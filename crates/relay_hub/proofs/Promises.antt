@@ -1,4 +1,4 @@
--- What the steps of the calls guarantee to clients.
+-- Guarantees of the calls' steps to clients.
 use Rattle.std.proofs.Common.{◌≡◌, ℕ, List, Result, Ok}
 use Rattle.relay_hub.specs.Call.{StepIf, Runs, receiving, followed}
 use Rattle.relay_hub.specs.Log.{Log}

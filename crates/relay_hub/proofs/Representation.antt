@@ -1,4 +1,4 @@
--- What the maps in the code mean for the hub that contracts see.
+-- The meaning of the maps in the code for the hub that contracts see.
 use Rattle.std.proofs.Common.{◌≡◌, ◌≢◌, ℕ, ◌+◌, true, arith, drop, remove, Result, Ok, Err, IfOk}
 use Rattle.std.proofs.Common.{IfErr, OnOk, OnErr, List, [], ◌∷◌, ◌++◌, Option, Some, None, IsSome}
 use Rattle.std.proofs.Common.{refl, sym, ◌∙◌, ap, subst, map, length, zero, suc, slice_get}

@@ -20,7 +20,7 @@ use Rattle.relay_hub.specs.Step.{after_notified, NotifiedFrom, AllNotified}
 use Rattle.relay_hub.proofs.Sessions.{none_there}
 use Rattle.relay_hub.proofs.Notified.{notified_number}
 
--- What rises.
+-- Numbers that rise.
 
 pairs : (xs : List Session) → IsRising xs → AllPairs (λ m n. m < n) (numbers xs)
 pairs xs h = AllPairs-from_increasing (numbers xs) h
@@ -47,7 +47,7 @@ once_rising [] h = tt
 once_rising (x ∷ xs) h =
     (none_above xs x.number (first_below x xs h), once_rising xs (rest_rises x xs h))
 
--- What leaves the numbers unchanged leaves their order unchanged.
+-- A step that leaves the numbers unchanged leaves their order unchanged.
 
 pub same_rises : (xs ys : List Session) → numbers ys ≡ numbers xs → IsRising xs → IsRising ys
 same_rises xs ys same h = subst IsStrictlyIncreasing (sym same) h

@@ -37,7 +37,7 @@ use Rattle.relay_hub.proofs.Lists.{slice_set_same}
 use Rattle.relay_hub.proofs.Served.{served_refusal, served_will, served_watch, served_unwatch}
 use Rattle.relay_hub.proofs.Served.{served_resume, served_edit}
 
--- What happens in the room of a session.
+-- Events in the room of a session.
 
 -- an open session is in its room
 never_absent : (b : HubConfig) (E : Log) (hub : State) (s : ℕ) (r : RoomOf hub) → StandsFor b E hub
@@ -124,7 +124,7 @@ drawn_stands b E old s r h (Some x) (Drawn text) stands at is step =
     draw_stands b E old s (record { room = r; session = x; at = at; is = is }) h text stands step
 drawn_stands b E old s r h o answer stands at is step = absurd step
 
--- What happens in the room of a session, or if it has none.
+-- Events in the room of a session, or of one that has none.
 
 in_room_stands : (b : HubConfig) (E : Log) (old new : State) (index : ℕ) (event : Event)
     (answer : Answer) (Does : RoomSessions → RoomSessions

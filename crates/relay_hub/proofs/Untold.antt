@@ -1,4 +1,4 @@
--- Which sessions a text left as they were.
+-- The sessions that a text left as they were.
 use Rattle.std.proofs.Common.{◌≡◌, ℕ, ◌+◌, ◌<◌, ◌==◌, nat_eq, Bool, true, false, List, [], ◌∷◌}
 use Rattle.std.proofs.Common.{Some, refl, sym, ◌∙◌, length, take, get_or, position, slice_set}
 use Rattle.std.proofs.Common.{arith}

@@ -1,4 +1,4 @@
--- What waits in an outbox that changes: cases, and that it round-trips.
+-- The messages that wait in an outbox that changes: cases, and that they round-trip.
 use Rattle.std.proofs.Common.{◌≡◌, ◌+◌, is_some, ℕ, Bool, true, false, List, [], ◌∷◌, ◌++◌, length}
 use Rattle.std.proofs.Common.{Option, refl, nat_lt, if◌then◌else◌}
 use Rattle.std.specs.List.{AllByRecursion}

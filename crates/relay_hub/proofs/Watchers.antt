@@ -1,4 +1,4 @@
--- What a hub that stands for its log provides for its watchers, and what a refused edit changes.
+-- A hub that stands for its log, for its watchers; and the changes of a refused edit.
 use Rattle.std.proofs.Common.{◌≡◌, ◌≢◌, ℕ, zero, suc, ◌==◌, true, false, List, [], ◌∷◌, ◌++◌, map}
 use Rattle.std.proofs.Common.{Option, Some, None, option_and_then, Ok, Err, refl, sym, ap, subst}
 use Rattle.std.proofs.Common.{arith, inl, inr, slice_get, slice_set}

@@ -1,4 +1,4 @@
--- Which requests a hub serves. The others are refused before anything of the room is looked at.
+-- The requests that a hub serves. The others are refused before anything of the room is looked at.
 use Rattle.std.specs.Prelude.{ℕ, ◌+◌, Bool, true, false, if◌then◌else◌, Option, Some, None, [], ◌∷◌}
 use Rattle.std.specs.Prelude.{Result, Ok, Err}
 use Rattle.std.specs.Option.{option_map_or}
@@ -14,7 +14,7 @@ use Rattle.relay_tree.specs.declared.budget.Budget.{Budget}
 use Rattle.relay_view.specs.View.{View}
 use Rattle.relay_hub.specs.Refusal.{refusal}
 
--- What a session may do.
+-- The rights of a session.
 
 abbrev pub may_edit : Access → Bool
 may_edit ReadWrite = true
@@ -28,7 +28,7 @@ permitted access (Ok (Will id patch)) =
     if may_edit access then Ok (Will id patch) else Err (refusal id word.ReadOnly None)
 permitted access request = request
 
--- How heavy a view may be.
+-- The bound on the weight of a view.
 
 -- the first slot whose pointer a budget does not pay for, once it has paid for those before it; the
 -- slots are numbered from n

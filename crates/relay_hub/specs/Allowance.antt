@@ -1,4 +1,4 @@
--- What the patches that are still to be made for one edit may weigh.
+-- The weight that is left for the patches still to be made for one edit.
 use Rattle.std.specs.Prelude.{ℕ, ◌-◌, Bool, true, false, ◌&&◌, ◌||◌, List, [], ◌∷◌, take, min}
 use Rattle.std.specs.Prelude.{if◌then◌else◌}
 use Rattle.relay_patch.specs.Weight.{ops_weight}

@@ -1,4 +1,4 @@
--- What a session asks by a text.
+-- The request of a session by a text.
 use Rattle.std.specs.Prelude.{◌≡◌, ℕ, List, Some}
 use Rattle.relay_proto.specs.Request.{request_of_text}
 use Rattle.relay_tree.specs.declared.budget.Budget.{Budget}

@@ -1,4 +1,4 @@
--- How the logic stores a budget, and the configuration of a hub.
+-- A budget as the logic stores it, and the configuration of a hub.
 use Rattle.std.specs.Prelude.{◌≡◌, ℕ, Option, Some, None, refl}
 use Rattle.std.specs.Coded.{Coded, code_by, coded×, coded_ℕ, coded_option}
 use Rattle.relay_tree.specs.declared.budget.Budget.{Budget}

@@ -1,5 +1,5 @@
--- What follows from a log: the documents of each room, which sessions are open in which room, what
--- they may do there and what will they left, what each session watches and which messages it
+-- The state that follows from a log: the documents of each room, the open sessions and their rooms,
+-- their rights there and their wills, the view that each session watches and the messages that it
 -- received. A log has its newest entry first, so each definition says what one more entry changes.
 use Rattle.std.specs.Prelude.{ℕ, ◌+◌, ◌-◌, ◌==◌, Bool, false, ◌||◌, List, [], ◌∷◌, ◌++◌, Option}
 use Rattle.std.specs.Prelude.{Some, None, option_map, Result, Ok, drop, length, replicate, nat_le}
@@ -40,7 +40,7 @@ entry event answer = record { event = event; answer = answer }
 abbrev pub Log : Type 0
 Log = List Entry
 
--- Which sessions are open, and in which room.
+-- The open sessions, and their rooms.
 
 -- a session's stay: the name of the room in which it is open, what it may do there, and its will,
 -- which may be empty
@@ -183,7 +183,7 @@ abbrev pub beginning : Log → List ℕ → ℕ
 beginning [] name = 0
 beginning (e ∷ E) name = beginning_after (beginning E name) (documents E name) name e.event e.answer
 
--- What the sessions watch.
+-- The views that the sessions watch.
 
 -- the pointers of a session's view, what its client held when the watch began, and the snapshots
 -- and patches drawn since

@@ -1,4 +1,4 @@
--- When a call of a hub may report that memory ran out: only if it would serve the event otherwise.
+-- A call of a hub may report that memory ran out only if it would serve the event otherwise.
 use Rattle.std.specs.Prelude.{◌≡◌, ⊤, ◌<◌, length, List, [], ◌∷◌, None, option_map, slice_get}
 use Rattle.std.specs.Prelude.{IfSome, IsSomeAnd, IsTrue}
 use Rattle.relay_hub.specs.Queries.{may_hear}

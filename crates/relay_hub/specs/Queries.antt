@@ -1,5 +1,5 @@
--- What a hub returns for a session and of all sessions, when no hub can be made, and what a refused
--- edit changes.
+-- The answers of a hub for a session and of all sessions, the causes for which no hub can be made,
+-- and the changes of a refused edit.
 use Rattle.std.specs.Prelude.{ℕ, ◌≡◌, ◌≢◌, map, ◌<◌, ◌⊎◌, Bool, false, length, nat_lt, sum_by}
 use Rattle.std.specs.Prelude.{Option, Some, None, option_map, option_and_then, List, Ok, Err}
 use Rattle.relay_limits.specs.declared.TheConstants.{MAX_REVISIONS, MAX_WAITING_PATCHES, MAX_COUNT}
@@ -36,6 +36,15 @@ BadLimits config =
 abbrev pub may_hear : Option Session → Bool
 may_hear (Some x) = nat_lt (length x.outbox.replies) MAX_REPLIES
 may_hear None = false
+
+-- how many replies wait for a session
+abbrev pub replies : Session → ℕ
+replies x = length x.outbox.replies
+
+-- the session is open, and a snapshot is due for it
+abbrev pub is_due : Option Session → Bool
+is_due (Some x) = x.outbox.due
+is_due None = false
 
 -- the room of session s, and the session
 abbrev pub room_and_session : State → ℕ → Option (Room × Session)

@@ -1,4 +1,4 @@
--- Why a request is refused, as replies state it.
+-- The cause of a request's refusal, as replies state it.
 use Rattle.std.specs.Prelude.{ℕ, Option, Some, None, option_map}
 use Rattle.relay_patch.specs.declared.fault.Cause.{Cause}
 use Rattle.relay_patch.specs.declared.fault.Cause.TheVariants as cause

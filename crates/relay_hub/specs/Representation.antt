@@ -1,4 +1,4 @@
--- How the code stores a hub.
+-- A hub as the code stores it.
 use Rattle.std.specs.Prelude.{ℕ, List, map, string_bytes}
 use Rattle.std.specs.declared.string.String.{String}
 use Rattle.relay_hub.specs.State.{RoomSessions, State}

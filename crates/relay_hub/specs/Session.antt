@@ -1,4 +1,4 @@
--- How one session changes: its view, its outbox and its will.
+-- Changes of one session: of its view, its outbox and its will.
 use Rattle.std.specs.Prelude.{ℕ, ◌≡◌, ◌+◌, Bool, false, length, List, [], ◌∷◌, ◌++◌, map, Option}
 use Rattle.std.specs.Prelude.{Some, None, option_map, is_some, if◌then◌else◌, refl}
 use Rattle.std.specs.Coded.{Coded, code_by, coded×, coded_bool, coded_ℕ, coded_list, coded_option}
@@ -59,7 +59,7 @@ with_will ops x = record {
   will = ops;
 }
 
--- What holds of each session.
+-- The invariant of each session.
 pub record IsSession (x : Session) : Type 0 where
   -- if it watches nothing, only replies wait
   pub idle : x.view ≡ None → (x.outbox.patches ≡ []) × (x.outbox.due ≡ false)
@@ -137,7 +137,7 @@ abbrev pub notified_outbox : Budget → ℕ → CatchUp → Contents Reply (ℕ 
 notified_outbox budget rev how contents =
     if contents.due then contents else led_outbox budget rev how contents
 
--- What is drawn.
+-- The result of a draw.
 
 -- the snapshot of a room for a view
 abbrev pub snapshot_of : Room → View → Message

@@ -1,5 +1,5 @@
--- What a hub gives back when memory was refused: what its rooms remember, and the patches that
--- wait.
+-- The memory that a hub gives back when some was refused: that of its rooms' histories, and of the
+-- patches that wait.
 use Rattle.std.specs.Prelude.{ℕ, List, [], ◌∷◌, map}
 use Rattle.relay_outbox.specs.Outbox.{Contents, folded}
 use Rattle.relay_patch.specs.declared.op.Op.{Op}

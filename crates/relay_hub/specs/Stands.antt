@@ -1,4 +1,4 @@
--- When a hub stands for a log, that is, agrees with it: it has the documents, the sessions and the
+-- A hub stands for a log, that is, agrees with it, if it has the documents, the sessions and the
 -- views of the log, and every watching client that applies what was drawn for it and what waits
 -- holds exactly its view of the present document.
 use Rattle.std.specs.Prelude.{ℕ, ◌≡◌, ⊤, ◌+◌, ◌-◌, ◌<◌, min, true, false, List, [], ◌∷◌, ◌++◌}
@@ -26,7 +26,7 @@ use Rattle.relay_tree.specs.declared.budget.Budget.TheVariants.{Unbounded}
 use Rattle.relay_hub.specs.declared.config.HubConfig.{HubConfig}
 use Rattle.relay_hub.specs.declared.will.Will.{Will}
 
--- What a client holds.
+-- The contents of a client.
 
 -- the client holds that revision, and the view of its document
 abbrev pub HoldsRevision : List Document → View → ℕ → Client → Type 0
@@ -60,7 +60,7 @@ pub record Follows (documents : List Document) (w : Watching)
   pub each : EachLeads documents w.view w.start (w.heard ++ waiting)
   pub exactly : HoldsPresent documents w.view (client_after w.start (w.heard ++ waiting))
 
--- What a hub holds.
+-- The contents of a hub.
 
 -- a room that began at a revision has these documents, and keeps the changes of its last revisions:
 -- of as many as its limit allows, if nothing is bounded by weight
@@ -159,7 +159,7 @@ pub record StandsFor (b : HubConfig) (E : Log) (hub : State) : Type 0 where
   -- each of them has its room
   pub housed : HaveRooms hub.rooms hub.wills
 
--- What follows for the clients of a hub that stands for a log.
+-- Consequences for the clients of a hub that stands for a log.
 
 -- each client that watches, and applies what was drawn for it and what waits, in order, holds
 -- exactly its view of the present document

@@ -172,7 +172,7 @@ pub record Home (hub : State) (s : ℕ) : Type 0 where
   pub at : index_of hub s ≡ Some room.index
   pub is : session_in room.room_sessions.sessions s ≡ Some session
 
--- What holds of each hub.
+-- The invariant of each hub.
 pub record IsHub (hub : State) : Type 0 where
   pub config : IsConfig hub.config
   -- the least revision at which a new room begins is a count

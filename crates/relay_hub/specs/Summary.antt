@@ -1,4 +1,4 @@
--- What an operator sees of a room.
+-- An operator's view of a room.
 use Rattle.std.specs.Prelude.{ℕ, List, length, Option, option_and_then, slice_get}
 use Rattle.relay_tree.specs.Document.{weight}
 use Rattle.relay_history.specs.Trimmed.{history_weight}

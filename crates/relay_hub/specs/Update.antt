@@ -1,4 +1,4 @@
--- What brings a view to a later revision, and what it does to an outbox.
+-- An update, which brings a view to a later revision, and its effect on an outbox.
 use Rattle.std.specs.Prelude.{ℕ, List}
 use Rattle.relay_outbox.specs.Outbox.{Contents, folded}
 use Rattle.relay_patch.specs.declared.op.Op.{Op}

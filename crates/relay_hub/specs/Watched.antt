@@ -1,4 +1,4 @@
--- What a room's watch index has of its sessions, and how the sessions that it names are notified.
+-- The entries that a room's watch index has of its sessions, and the notice to those that it names.
 use Rattle.std.specs.Prelude.{ℕ, ◌≡◌, ◌+◌, Bool, true, false, List, [], ◌∷◌, Option}
 use Rattle.std.specs.Prelude.{option_and_then, nat_eq, if◌then◌else◌}
 use Rattle.std.specs.List.{list_any}
@@ -21,8 +21,8 @@ view_in sessions t = option_and_then (λ x. x.view) (session_in sessions t)
 abbrev pub Agrees : Watches → List Session → Type 0
 Agrees watches sessions = (t : ℕ) → map.get watches t ≡ view_in sessions t
 
--- What holds of each room's sessions and their index: the sessions are in the order in which they
--- were opened, so that their numbers rise.
+-- The invariant of each room's sessions and their index: the sessions are in the order in which
+-- they were opened, so that their numbers rise.
 pub record IsIndexed (watches : Watches) (sessions : List Session) : Type 0 where
   pub rising : IsRising sessions
   pub agrees : Agrees watches sessions

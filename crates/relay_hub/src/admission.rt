@@ -1,4 +1,4 @@
-//! Which requests are served: what the session may do, and how heavy a view may be.
+//! The requests that are served, by the rights of the session and the bound on a view's weight.
 ghost use Rattle.std.specs.Prelude.{◌≡◌, Ok, IfOk, IfErr};
 ghost use Rattle.relay_proto.specs.Request.{request_of_text, IsRefusedAs};
 ghost use Rattle.relay_proto.specs.declared.refusal.RequestFault.TheVariants.{Refused};

@@ -1,4 +1,4 @@
-//! What a session asks by a text: read and admitted, before anything is done.
+//! The request of a session's text: read and admitted, before anything is done.
 ghost use Rattle.std.specs.Prelude.{◌≡◌, Ok, None, IfOk, IfSome, OnErr, IsSome};
 ghost use Rattle.std.specs.Bool.{MatchBool};
 ghost use Rattle.relay_hub.specs.Asked.{IsAskedBy};
@@ -17,7 +17,7 @@ use relay_proto::{Refusal, Request, RequestFault};
 use relay_tree::{Budget, Scratch};
 use std::alloc::{AllocError, Global};
 
-/// What a session asks, and the memory for the reply.
+/// The request of a session, and the memory for the reply.
 #[derive(Drop)]
 pub struct Asked {
     pub caller: Caller,
@@ -67,7 +67,7 @@ pub fn ask(
     }))
 }
 
-/// Whether 32 replies wait for the caller.
+/// Returns true if 32 replies wait for the caller.
 fn is_full(sessions: &[Session], caller: Caller) -> bool
     requires { IsCaller sessions.now caller }
     ensures { MatchBool result (IsFull sessions.now caller.number)

@@ -29,13 +29,13 @@ pub(crate) const MAX_SHARED: usize = 16;
 /// weigh.
 #[derive(Drop)]
 pub struct UpdateCache {
-    /// What the patches that are still to be made may weigh together.
+    /// The weight that is left for the patches still to be made.
     pub left: Budget,
     /// The patches that were made last, the newest first.
     pub patches: Vec<CachedPatch>,
     /// The updates that were made last and are no patches, the newest first.
     pub others: Vec<CachedUpdate>,
-    /// What the updates cost that were made.
+    /// The cost of the updates that were made.
     pub cost: CostMeter,
 }
 
@@ -166,7 +166,7 @@ fn patch_for<'a>(patches: &'a [CachedPatch], view: &SharedView) -> Option<&'a En
     None
 }
 
-/// Whether two views have the same slots in the same order.
+/// Returns true if two views have the same slots in the same order.
 fn same(one: &View, other: &View) -> bool
     ensures same { result ≡ same_view one.now other.now }
     ensures equal { IsTrue result ↔ (one.now ≡ other.now) }
@@ -263,7 +263,7 @@ fn smaller(one: Budget, other: Budget) -> Budget
     }
 }
 
-/// What is left of a budget after a patch is made that it pays for.
+/// The remainder of a budget after a patch is made that it pays for.
 fn less(left: Budget, patch: &EncodedPatch) -> Budget
     ensures { result ≡ less (ops_weight patch.now.1) left }
 {

@@ -1,4 +1,4 @@
-//! What the work of a hub costs: an estimate in nanoseconds on the machine of docs/PERFORMANCE.md,
+//! The cost of a hub's work: an estimate in nanoseconds on the machine of docs/PERFORMANCE.md,
 //! within a factor of about two for many values, and of about three for long strings.
 //!
 //! It is counted where the work is done, so nothing is guessed of a text that was not served yet.

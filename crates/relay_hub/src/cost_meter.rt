@@ -22,7 +22,7 @@ impl CostMeter {
         self.nanos = self.nanos.saturating_add(nanos);
     }
 
-    /// What the work cost together, in nanoseconds.
+    /// The cost of all work together, in nanoseconds.
     pub fn total(&self) -> u64
         ensures { result ≡ self.now.nanos }
     {

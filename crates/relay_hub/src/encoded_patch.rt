@@ -88,7 +88,7 @@ impl EncodedPatch {
         self.encoding.weight
     }
 
-    /// Whether a budget pays for the patch.
+    /// Returns true if a budget pays for the patch.
     pub fn is_within(&self, budget: Budget) -> bool
         ensures { result ≡ is_some (paid (ops_weight self.now.1) budget) }
     {

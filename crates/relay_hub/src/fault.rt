@@ -2,7 +2,7 @@
 use crate::event::Answer;
 use thiserror::Error;
 
-/// Why a hub cannot be made.
+/// The cause for which a hub cannot be made.
 ///
 /// ```
 /// // Rooms keep the changes of at most 1,024 revisions.
@@ -20,7 +20,8 @@ pub enum HubNewFault {
     NoMemory,
 }
 
-/// Why a session cannot be opened, in the order of the checks. The hub is unchanged.
+/// The causes for which a session cannot be opened, in the order of the checks. The hub is
+/// unchanged.
 ///
 /// ```
 /// let config = HubConfig { rooms: 1, sessions: 1, ..HubConfig::new(1, 1, 64, 32) };
@@ -50,7 +51,8 @@ pub enum OpenFault {
     NoMemory,
 }
 
-/// Why a room cannot be forgotten, in the order of the checks. The hub is unchanged.
+/// The causes for which a room cannot be forgotten, in the order of the checks. The hub is
+/// unchanged.
 ///
 /// ```
 /// let mut hub = Hub::new(alloc, 1, 1, 64, 32).ok()?;
@@ -73,7 +75,7 @@ pub enum ForgetFault {
     NoMemory,
 }
 
-/// Why a session cannot be served. The hub is unchanged.
+/// The cause for which a session cannot be served. The hub is unchanged.
 ///
 /// ```
 /// let mut hub = Hub::new(alloc, 1, 1, 64, 32).ok()?;

@@ -259,8 +259,8 @@ impl Hub {
         Ok(index)
     }
 
-    /// Whether another room is needed, there are as many as the configuration allows, and none can
-    /// be replaced now: none is evictable, or a will is left to be done.
+    /// Returns true if another room is needed, there are as many as the configuration allows, and
+    /// none can be replaced now: none is evictable, or a will is left to be done.
     fn is_crowded(&self, index: Option<usize>) -> bool
         ensures { result ≡ is_crowded index self.now }
     {
@@ -365,7 +365,7 @@ impl Hub {
         Ok(())
     }
 
-    /// Whether a will is left to be done. Allocates nothing.
+    /// Returns true if a will is left to be done. Allocates nothing.
     ///
     /// ```
     /// let mut hub = Hub::new(alloc, 1, 1, 64, 32).ok()?;

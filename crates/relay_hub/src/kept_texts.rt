@@ -29,7 +29,7 @@ pub fn bound_texts(
     }
 }
 
-/// How many bytes the text has that the room at `index` keeps; 0 if it keeps none.
+/// The length in bytes of the text that the room at `index` keeps; 0 if it keeps none.
 fn bytes_at(rooms: &IndexMap<String, RoomSessions>, index: usize) -> u64 {
     match rooms.get_index(index) {
         Some((_, room_sessions)) => room_sessions.snapshot_bytes(),

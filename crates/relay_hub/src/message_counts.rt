@@ -6,10 +6,10 @@ ghost use Rattle.relay_hub.specs.Counts.{next, no_snapshots, with_snapshot};
 use crate::cost_meter::CostMeter;
 use relay_proto::{Reply, Word};
 
-/// How many words name the fault of a refusal.
+/// The number of words that name the fault of a refusal.
 const FAULTS: usize = 20;
 
-/// Why a snapshot is due.
+/// The cause for which a snapshot is due.
 #[derive(Clone, Copy)]
 pub enum SnapshotCause {
     /// A client asked to watch.
@@ -26,7 +26,7 @@ pub enum SnapshotCause {
     Memory,
 }
 
-/// How many messages the sessions of a hub drew since it was made, by kind.
+/// The number of messages that the sessions of a hub drew since it was made, by kind.
 ///
 /// ```
 /// let mut hub = Hub::new(alloc, 1, 1, 64, 32).ok()?;
@@ -44,11 +44,11 @@ pub struct MessageCounts {
     pub refusals: [FaultCount; FAULTS],
     pub patches: u64,
     pub snapshots: SnapshotCounts,
-    /// What the draws cost.
+    /// The cost of the draws.
     pub(crate) cost: CostMeter,
 }
 
-/// How many refusals name a fault.
+/// The number of refusals that name each fault.
 ///
 /// ```
 /// let mut hub = Hub::new(alloc, 1, 1, 64, 32).ok()?;
@@ -64,7 +64,7 @@ pub struct FaultCount {
     pub count: u64,
 }
 
-/// How many snapshots were drawn, by what made them due.
+/// The number of snapshots that were drawn, by the cause for which they were due.
 ///
 /// ```
 /// let mut hub = Hub::new(alloc, 1, 1, 64, 32).ok()?;

@@ -1,4 +1,4 @@
-//! What texts and wills leave to be known besides their answers.
+//! Facts that texts and wills leave behind besides their answers.
 use crate::cost_meter::CostMeter;
 use crate::told::Told;
 use std::alloc::Global;
@@ -8,7 +8,7 @@ use std::alloc::Global;
 #[derive(Drop)]
 pub struct Report {
     pub told: Told,
-    /// How many edits were accepted so far, those of wills among them.
+    /// The number of edits accepted so far, those of wills among them.
     pub edits: u64,
     /// The cost of all texts and wills so far.
     pub cost: CostMeter,

@@ -39,8 +39,8 @@ use relay_translate::WatchIndex;
 use relay_view::View;
 use std::alloc::{AllocError, Global};
 
-/// How many of a room's sessions are looked at for an equal view when one begins to watch. Those
-/// that watch the same view often come one after the other.
+/// The number of a room's sessions that are looked at for an equal view when one begins to watch.
+/// Those that watch the same view often come one after the other.
 const NEWEST: usize = 16;
 
 /// Does what a session asks, and writes down whom it told something. Adds exactly one reply to the

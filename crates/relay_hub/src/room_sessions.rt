@@ -101,15 +101,15 @@ impl RoomSessions {
         self.sessions.len()
     }
 
-    /// What the patches weigh that wait for its sessions; 0 if no bound was set, since then it is
-    /// not counted ([`Session::load`]); `u64::MAX` if it is more. Allocates nothing.
+    /// The weight of the patches that wait for its sessions; 0 if no bound was set, since then it
+    /// is not counted ([`Session::load`]); `u64::MAX` if it is more. Allocates nothing.
     pub fn load(&self) -> u64
         ensures { result ≡ saturated (sessions_weight self.now.sessions) }
     {
         load_of(self.sessions.as_slice())
     }
 
-    /// How many bytes the text has that is kept of a snapshot; 0 if none is. Allocates nothing.
+    /// The length in bytes of the text that is kept of a snapshot; 0 if none is. Allocates nothing.
     pub fn snapshot_bytes(&self) -> u64 {
         self.snapshot.bytes()
     }
@@ -121,8 +121,8 @@ impl RoomSessions {
         self.snapshot = SnapshotText::none();
     }
 
-    /// Whether it may be evicted for another room: its document is `null`, nobody is in it, and a
-    /// revision above its own is left. Allocates nothing.
+    /// Returns true if it may be evicted for another room: its document is `null`, nobody is in it,
+    /// and a revision above its own is left. Allocates nothing.
     pub fn is_evictable(&self) -> bool
         ensures { result ≡ is_evictable self.now }
     {
@@ -331,7 +331,7 @@ fn is_null(tree: &Tree) -> bool
     matches!(tree.node, Node::Null)
 }
 
-/// What the patches weigh that wait for these sessions, as far as that is bounded.
+/// The weight of the patches that wait for these sessions, as far as that is bounded.
 fn load_of(sessions: &[Session]) -> u64
     ensures { result ≡ saturated (sessions_weight sessions.now) }
 {

@@ -27,9 +27,9 @@ pub struct Session {
     outbox: Outbox<BoxedReply, EncodedPatch>,
     /// The most that the waiting patches may weigh together.
     budget: Budget,
-    /// What the waiting patches weigh, counted only if they are bounded.
+    /// The weight of the waiting patches, counted only if they are bounded.
     load: u64,
-    /// Why the snapshot is due, if one is.
+    /// The cause for which the snapshot is due, if one is.
     due_for: SnapshotCause,
     /// The patch for when it has ended, which may be empty.
     will: Patch,
@@ -126,7 +126,7 @@ impl Session {
         self.number
     }
 
-    /// What the session may do in its room.
+    /// The rights of the session in its room.
     pub fn access(&self) -> Access
         ensures { result ≡ self.now.access }
     {
@@ -147,7 +147,7 @@ impl Session {
         self.budget
     }
 
-    /// What the waiting patches weigh together, if that is bounded; 0 if not.
+    /// The weight of the waiting patches together, if that is bounded; 0 if not.
     #[tactic(auto, using(crate::proofs::Loads::load_is))]
     pub fn load(&self) -> u64
         ensures load { IsLoad self.now.budget result self.now.outbox }
@@ -156,14 +156,21 @@ impl Session {
         self.load
     }
 
-    /// Whether a snapshot is due. It will show the document as it is when it is drawn.
+    /// Returns true if a snapshot is due. It will show the document as it is when it is drawn.
     pub fn is_due(&self) -> bool
         ensures { result ≡ self.now.outbox.due }
     {
         self.outbox.is_due()
     }
 
-    /// Whether no further reply may wait.
+    /// The number of replies that wait.
+    pub fn replies(&self) -> u64
+        ensures { result ≡ length self.now.outbox.replies }
+    {
+        self.outbox.replies()
+    }
+
+    /// Returns true if no further reply may wait.
     pub fn is_full(&self) -> bool
         ensures within { length self.now.outbox.replies ≤ MAX_REPLIES }
         ensures full { result ≡ nat_le MAX_REPLIES (length self.now.outbox.replies) }
@@ -190,7 +197,7 @@ impl Session {
         self.will = patch;
     }
 
-    /// What it leaves behind, which may be empty.
+    /// The will that it leaves behind, which may be empty.
     pub fn into_will(self) -> Patch
         ensures { result ≡ self.will }
     {
@@ -357,7 +364,7 @@ impl Session {
         }
     }
 
-    /// How many messages wait: the number of draws that would return a text now.
+    /// The number of messages that wait, that is, of draws that would return a text now.
     pub fn waiting(&self) -> u64
         ensures { result ≡ waiting self.now }
     {

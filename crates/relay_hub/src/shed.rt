@@ -9,8 +9,8 @@ use crate::session::Session;
 use indexmap::IndexMap;
 use relay_tree::Budget;
 
-/// What the changes that a room remembers may weigh afterwards: nothing, if their weight has a
-/// bound. Without one a room is promised its last revisions, whatever they weigh, and keeps them.
+/// The weight that a room's history may have afterwards: none, if its weight has a bound. Without
+/// one a room is promised its last revisions, whatever they weigh, and keeps them.
 pub fn shed_budget(budget: Budget) -> Budget
     ensures { result ≡ shed_budget budget }
 {

@@ -58,7 +58,7 @@ impl SnapshotText {
         }
     }
 
-    /// How many bytes the kept text has; 0 if none is kept. Allocates nothing.
+    /// The length in bytes of the kept text; 0 if none is kept. Allocates nothing.
     pub fn bytes(&self) -> u64
         ensures { result ≡ kept_bytes self.now }
     {
@@ -127,7 +127,7 @@ impl SnapshotText {
         }
     }
 
-    /// Whether the text that was written last was for an equal view.
+    /// Returns true if the text that was written last was for an equal view.
     fn was_written_for(&self, view: &SharedView) -> bool {
         match &self.written {
             Some(written) => written.get().same(view.get()),

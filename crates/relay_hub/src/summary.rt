@@ -1,4 +1,4 @@
-//! What an operator sees of a room: its name and its size, but not its document.
+//! An operator's view of a room: its name and its size, but not its document.
 ghost use Rattle.std.specs.Prelude.{◌≡◌, string_bytes};
 ghost use Rattle.relay_hub.specs.Summary.{shown_by, summary_of};
 
@@ -22,7 +22,7 @@ pub struct RoomSummary<'h> {
     pub sessions: usize,
     /// The weight of its present document.
     pub weight: u64,
-    /// What the changes that it holds weigh together.
+    /// The weight of the changes that it holds together.
     pub history: u64,
 }
 

@@ -1,13 +1,13 @@
-//! How large a text is, and what that costs.
+//! The size of a text, and its cost.
 
-/// How many values a text has, and how many bytes.
+/// The number of values of a text, and of its bytes.
 #[derive(Clone, Copy)]
 pub struct TextSize {
     values: u64,
     bytes: u64,
 }
 
-/// What a value of a text costs, and what a byte, in nanoseconds.
+/// The cost of a value of a text, and of a byte, in nanoseconds.
 #[derive(Clone, Copy)]
 pub struct Price {
     pub value: u64,
@@ -28,7 +28,7 @@ impl TextSize {
         }
     }
 
-    /// What the text costs at a price.
+    /// The cost of the text at a price.
     pub fn cost(self, price: Price) -> u64 {
         self.values
             .saturating_mul(price.value)

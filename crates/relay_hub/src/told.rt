@@ -7,7 +7,7 @@ use std::alloc::Global;
 pub struct Told {
     /// Their numbers, in ascending order, each once.
     pub sessions: Vec<u64>,
-    /// Whether it may be any session of the room, since memory ran out before they were found.
+    /// True if it may be any session of the room, since memory ran out before they were found.
     pub all: bool,
 }
 

@@ -1,4 +1,4 @@
-//! What an edit or a resume means to a view, ready to be added to an outbox.
+//! The meaning of an edit or a resume to a view, ready to be added to an outbox.
 ghost use Rattle.std.specs.Prelude.{◌≡◌, IfOk};
 ghost use Rattle.relay_hub.specs.Update.{update_of, word_of};
 
@@ -7,8 +7,8 @@ use relay_proto::ResumeOutcome;
 use relay_room::CatchUp;
 use std::alloc::{AllocError, Global};
 
-/// What brings a view to a later revision ([`CatchUp`]). A patch comes with the text of its
-/// message.
+/// An update, which brings a view to a later revision ([`CatchUp`]). A patch comes with the text of
+/// its message.
 #[derive(Drop)]
 pub enum Update {
     Nothing,

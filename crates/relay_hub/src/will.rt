@@ -1,4 +1,4 @@
-//! What a session leaves behind.
+//! The will that a session leaves behind.
 ghost use Rattle.std.specs.Prelude.{◌≡◌, ◌<◌, ◌++◌, length, vec_capacity};
 ghost use Rattle.relay_hub.specs.Step.{left_of};
 

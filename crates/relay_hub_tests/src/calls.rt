@@ -63,7 +63,7 @@ fn opened(alloc: Global, hub: &mut Hub, room: &str, access: Access) -> Result<u6
     Ok(hub.open(alloc, room, access)?.session)
 }
 
-/// What comes of an act on a session, whose number stands in front of the text, if there is one.
+/// The outcome of an act on a session, whose number stands in front of the text, if there is one.
 fn act_on_one(alloc: Global, hub: &mut Hub, word: &str, rest: &str) -> Came {
     let (number, text) = cut(rest);
     let number = number.parse::<u64>().ok()?;
@@ -86,7 +86,7 @@ fn long_edit(alloc: Global, letters: &str) -> Came {
     LONG_EDIT.replace(alloc, "LETTERS", letters.as_str()).ok()
 }
 
-/// What a hub tells of a session, or of the room at an index.
+/// The text that a hub tells of a session, or of the room at an index.
 fn seen_of_one(alloc: Global, hub: &Hub, word: &str, number: u64) -> Came {
     match word {
         "waiting" => words(alloc, hub.waiting(number)),
@@ -153,8 +153,8 @@ fn seen(alloc: Global, held: Result<Option<(u64, Tree)>, HubFault>) -> Came {
     }
 }
 
-/// How many replies, refusals and patches the sessions drew, and how many snapshots, by their
-/// causes.
+/// The number of replies, of refusals and of patches that the sessions drew, and of snapshots, by
+/// their causes.
 fn counted(alloc: Global, counts: &MessageCounts) -> Came {
     let mut refusals = 0u64;
     for refused in counts.refusals.iter() {
@@ -171,7 +171,7 @@ fn counted(alloc: Global, counts: &MessageCounts) -> Came {
     .ok()
 }
 
-/// Whether a number lies within two others, which stand in one text.
+/// True if a number lies within two others, which stand in one text.
 fn lies_within(found: u64, bounds: &str) -> Option<bool> {
     let (least, most) = bounds.split_once(' ')?;
     Some(number(least)? <= found && found <= number(most)?)

@@ -44,7 +44,7 @@ fn follow_from(alloc: Global, follower: &mut Follower, rest: &str) -> Came {
     owned(alloc, "")
 }
 
-/// What the follower answers to a text, and what it holds afterwards.
+/// The answer of the follower to a text, and what it holds afterwards.
 fn heard(alloc: Global, follower: &mut Follower, text: &str) -> Came {
     let answer = follower.hear(alloc, text);
     let held = held(alloc, follower)?;

@@ -8,9 +8,9 @@ use relay_test_stream::{Subject, cut, play};
 use relay_tree::{Budget, Node, Tree};
 use std::alloc::{AllocError, AllocGlobal, Global};
 
-/// What `five` stands for: a history of five revisions. A change weighs 64 and its whole number 8,
-/// and the root's path nothing, so the third revision, which sets the root twice, weighs 144 and
-/// the others 72.
+/// The acts that `five` stands for: a history of five revisions. A change weighs 64 and its whole
+/// number 8, and the root's path nothing, so the third revision, which sets the root twice, weighs
+/// 144 and the others 72.
 const FIVE: &str = "
 new 5 0 => Ok(0)
 push 1

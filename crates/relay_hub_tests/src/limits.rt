@@ -14,7 +14,7 @@ use relay_test_stream::{Subject, play};
 use relay_view::MAX_SLOTS;
 use std::alloc::AllocGlobal;
 
-/// What each limit is of, in the order of [`LIMITS`].
+/// The quantity that each limit is of, in the order of [`LIMITS`].
 const ROWS: &str = "
 depth of a document => 64
 weight of a document => 262144
@@ -57,7 +57,7 @@ const LIMITS: [u64; 18] = [
     MAX_NAME as u64,
 ];
 
-/// How many of the limits were told.
+/// The number of limits that were told.
 #[derive(Drop)]
 struct Told(usize);
 

@@ -92,7 +92,7 @@ impl<R: AllocGlobal> Subject<R> for Texts {
     }
 }
 
-/// What comes of reading a text.
+/// The outcome of reading a text.
 fn act_of_reading(alloc: Global, word: &str, text: &str) -> Came {
     match word {
         "message" => written_again(alloc, text),
@@ -118,7 +118,7 @@ fn snapshot_written(alloc: Global, rest: &str) -> Came {
     snapshot_text(alloc, number(rev)?, &tree_of(alloc, view)?).ok()
 }
 
-/// What a view shows of a document at a revision.
+/// The part that a view shows of a document at a revision.
 fn shown_written(alloc: Global, rest: &str) -> Came {
     let (rev, rest) = cut(rest);
     let (view, document) = cut(rest);
@@ -134,7 +134,7 @@ fn written_again(alloc: Global, text: &str) -> Came {
     }
 }
 
-/// What a text requests, as text, or why it is no request.
+/// The request of a text, as text, or the cause for which it is none.
 fn asked(alloc: Global, text: &str) -> Came {
     match Request::read(alloc, text) {
         Ok(Request::Edit { id, base, patch }) => {
@@ -153,7 +153,7 @@ fn of_len(alloc: Global, what: &str, id: u64, len: u64) -> Came {
     format!(in alloc; "{what} {id} {len}").ok()
 }
 
-/// What a valid request of so many bytes requests.
+/// The request that a valid text of so many bytes makes.
 fn asked_by_unwatch_of(alloc: Global, len: &str) -> Came {
     let len = len.parse::<usize>().ok()?;
     let request = r#"{"do":"unwatch","id":1}"#;
@@ -162,7 +162,7 @@ fn asked_by_unwatch_of(alloc: Global, len: &str) -> Came {
     asked(alloc, text.as_str())
 }
 
-/// What a will requests whose patch adds a string of so many bytes, which weighs 8 more.
+/// The request of a will whose patch adds a string of so many bytes, which weighs 8 more.
 fn asked_by_will_of(alloc: Global, len: &str) -> Came {
     let string = "a".repeat(alloc, len.parse::<usize>().ok()?).ok()?;
     let patch = format!(in alloc;

@@ -144,14 +144,14 @@ fn edit_by(alloc: Global, room: &mut Room, base: Option<u64>, patch: &Patch) -> 
     format!(in alloc; "{answer:?}: {document}").ok()
 }
 
-/// What a client missed, as text, or why nothing tells it.
+/// The changes that a client missed, as text, or the cause for which nothing tells them.
 fn missed(alloc: Global, room: &Room, rest: &str) -> Came {
     let (rev, view) = cut(rest);
     let view = view_of(alloc, view)?;
     missed_in_words(alloc, room.catch_up(alloc, number(rev)?, &view))
 }
 
-/// What a client missed, as text: a patch is written out.
+/// The changes that a client missed, as text: a patch is written out.
 fn missed_in_words(alloc: Global, missed: Result<CatchUp, CatchFault>) -> Came {
     match missed {
         Ok(CatchUp::Patch(patch)) => patch.to_tree(alloc).ok()?.text(alloc).ok(),

@@ -8,7 +8,7 @@ use std::alloc::{AllocError, AllocGlobal, Global};
 use std::process::Abort;
 use std::test::Fail;
 
-/// What session 1 says: it watches, edits, and has an edit refused.
+/// The texts of session 1: it watches, edits, and has an edit refused.
 const SAID: &str = r#"{"do":"watch","id":1,"view":["/x"]}
 {"do":"edit","id":2,"patch":[{"op":"add","path":"","value":{"x":1}}]}
 {"do":"edit","id":3,"patch":[{"op":"replace","path":"/x","value":2},{"op":"remove","path":"/y"}]}"#;
@@ -68,7 +68,7 @@ WillDone { short: 0 }
 NoWill
 Forgotten { rev: 3 }"#;
 
-/// How many they are.
+/// The number of them.
 const COUNT: usize = 15;
 
 /// An answer, as text. Of a draw it is the text itself, if there was one.
@@ -89,7 +89,7 @@ fn are_the_first(rt: &(impl Abort + AllocGlobal), answers: &[Answer]) -> Result<
     Ok(())
 }
 
-/// How many messages wait for session 1, and what it should hold, if it is open.
+/// The number of messages that wait for session 1, and what it should hold, if it is open.
 fn state(alloc: Global, hub: &Hub) -> Came {
     let waiting = hub.waiting(1);
     let truth = truth(alloc, hub)?;

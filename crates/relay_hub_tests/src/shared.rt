@@ -6,7 +6,7 @@ use relay_view::View;
 use std::alloc::Global;
 use std::fmt::Debug;
 
-/// What came of an act, if that can be told.
+/// The outcome of an act, if that can be told.
 pub(crate) type Came = Option<String>;
 
 /// The `Debug` text of a value.

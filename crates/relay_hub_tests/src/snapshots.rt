@@ -2,8 +2,9 @@
 //! is written for a view, so what is drawn third tells.
 use crate::calls::play_on_hubs;
 
-/// What `four-watch` stands for: session 1 has edited, sessions 2 to 4 watch the whole document,
-/// and session 5 watches a member. Their replies are drawn, and each of them is due a snapshot.
+/// The acts that `four-watch` stands for: session 1 has edited, sessions 2 to 4 watch the whole
+/// document, and session 5 watches a member. Their replies are drawn, and each of them is due a
+/// snapshot.
 const FOUR_WATCH: &str = r#"
 open r => Ok(1)
 open r => Ok(2)

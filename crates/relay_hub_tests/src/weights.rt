@@ -6,8 +6,8 @@
 //! and a list with the number.
 use crate::calls::play_on_hubs;
 
-/// What `watching` stands for: session 1 watches the whole document, an object, and has drawn all
-/// that waits; session 2 watches nothing.
+/// The acts that `watching` stands for: session 1 watches the whole document, an object, and has
+/// drawn all that waits; session 2 watches nothing.
 pub(crate) const WATCHING: &str = r#"
 open r => Ok(1)
 open r => Ok(2)
@@ -18,9 +18,9 @@ draw 1 => {"id":1,"kind":"watching"}
 draw 1 => {"kind":"snapshot","rev":1,"view":[[{}]]}
 "#;
 
-/// What `two-more` stands for, after `watching`: sessions 3 and 4 watch one member of the document,
-/// and have drawn all that waits. Then session 2 edits. The patch of sessions 3 and 4, which weighs
-/// 25, and that of session 1, which weighs 35, make 60.
+/// The acts that `two-more` stands for, after `watching`: sessions 3 and 4 watch one member of the
+/// document, and have drawn all that waits. Then session 2 edits. The patch of sessions 3 and 4,
+/// which weighs 25, and that of session 1, which weighs 35, make 60.
 const TWO_MORE: &str = r#"
 open r => Ok(3)
 open r => Ok(4)

@@ -1,4 +1,4 @@
--- What the calls of a socket frame.
+-- The frames that the calls of a socket make.
 use Rattle.std.proofs.Common.{◌≡◌, ℕ, List, [], ◌++◌, Option, None, Some, Ok, Err, Result, IfErr}
 use Rattle.std.proofs.Common.{OnOk, refl, sym, subst, ap, ◌∙◌, append_assoc, append-nil}
 use Rattle.std.specs.Io.KnownBytes.{Appends, Keeps, append_known}

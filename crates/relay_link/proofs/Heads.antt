@@ -1,4 +1,4 @@
--- What the bytes of a head ask for.
+-- The request in the bytes of a head.
 use Rattle.std.proofs.Common.{◌≡◌, ◌≤◌, ℕ, false, List, [], ◌++◌, length, Option, Some, Result, Ok}
 use Rattle.std.proofs.Common.{Err, is_ok, is_err, if◌then◌else◌, subst, sym, append-nil, arith}
 use Rattle.std.specs.Io.KnownBytes.{Consumes}

@@ -1,4 +1,4 @@
--- How what a link reads and what it passes to the hub go on together.
+-- The texts that a link reads and those that it passes to the hub go on together.
 use Rattle.std.proofs.Common.{◌≡◌, inl, inr, ℕ, zero, suc, Bool, true, false, if◌then◌else◌, List}
 use Rattle.std.proofs.Common.{[], ◌∷◌, ◌++◌, Option, None, Some, Result, Ok, Err, OnOk, refl, sym}
 use Rattle.std.proofs.Common.{subst, ap, ◌∙◌, append_assoc, append-nil, arith}

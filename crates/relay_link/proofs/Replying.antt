@@ -1,4 +1,4 @@
--- What a link wrote of a reply, and what it keeps.
+-- The part of a reply that a link wrote, and the part that it keeps.
 use Rattle.std.proofs.Common.{◌≡◌, ℕ, Bool, true, false, string_bytes, List, [], ◌++◌, take, drop}
 use Rattle.std.proofs.Common.{Option, Result, is_ok, is_err, if◌then◌else◌, refl, sym, subst, ap}
 use Rattle.std.proofs.Common.{◌∙◌, append_assoc, append-nil, Vec, Global, String}

@@ -1,4 +1,4 @@
--- What a turn of a link gives to its stream, by the answers of one list of steps.
+-- The bytes that a turn of a link gives to its stream, by the answers of one list of steps.
 use Rattle.std.proofs.Common.{◌≡◌, ℕ, List, [], Option, ◌⊎◌, inl, inr}
 use Rattle.relay_hub.specs.State.{State as Hub}
 use Rattle.relay_hub.specs.declared.event.Event.{Event}

@@ -1,4 +1,4 @@
--- Why draws stop.
+-- The causes for which draws stop.
 use Rattle.std.proofs.Common.{◌≡◌, ◌+◌, ◌≤◌, ◌==◌, ℕ, true, List, [], ◌∷◌, ◌++◌, Option, Some, None}
 use Rattle.std.proofs.Common.{option_map, slice_get, nat_eq, Result, Ok, Err, IfOk, OnOk, refl, ap}
 use Rattle.std.proofs.Common.{◌∙◌, arith}

@@ -1,4 +1,4 @@
--- How what a link draws and what it frames go on together.
+-- The texts that a link draws and those that it frames go on together.
 use Rattle.std.proofs.Common.{◌≡◌, ℕ, Bool, true, false, if◌then◌else◌, Result, Ok, Err, IfOk, OnOk}
 use Rattle.std.proofs.Common.{OnErr, arith, List, [], ◌∷◌, ◌++◌, Option, Some, None, option_map}
 use Rattle.std.proofs.Common.{String, Global, string_bytes, IsUtf8, refl, sym, subst, ap, ◌∙◌}

@@ -1,4 +1,4 @@
--- How the parts of a visit go on together.
+-- The parts of a visit go on together.
 use Rattle.std.proofs.Common.{◌≡◌, ◌⊎◌, inl, inr, ◌≤◌, ◌<◌, ◌+◌, ℕ, true, false, List, [], ◌∷◌}
 use Rattle.std.proofs.Common.{◌++◌, map, length, Option, Some, None, option_to_list, is_some}
 use Rattle.std.proofs.Common.{Result, Ok, Err, OnOk, String, Global, string_bytes, refl, sym, subst}

@@ -1,5 +1,5 @@
--- How a link answers a binary message, which a relay does not take: by a close with 1003 (RFC 6455,
--- section 7.4.1).
+-- The answer of a link to a binary message, which a relay does not take: by a close with 1003 (RFC
+-- 6455, section 7.4.1).
 use Rattle.std.specs.Prelude.{◌≡◌, ⊤, ℕ, List, [], Option, Some, Result, IfErr}
 use Rattle.tungstenite.specs.Socket.{Socket, Writes}
 use Rattle.websocket.specs.Connection.{close_step}

@@ -1,4 +1,4 @@
--- Why a link ends, and how long one that is closing waits.
+-- The cause for which a link ends, and the time for which one that is closing waits.
 use Rattle.std.specs.Prelude.{ℕ, ◌+◌, ◌≢◌, Some, None, Result, Ok, Err}
 use Rattle.tungstenite.specs.Socket.{Socket}
 use Rattle.tungstenite.specs.declared.error.Error.{Error}

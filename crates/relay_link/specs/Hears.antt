@@ -1,4 +1,5 @@
--- What a link hears in a turn: the text that it reads, which it passes to the hub in the same turn.
+-- The texts that a link hears in a turn: the text that it reads, which it passes to the hub in the
+-- same turn.
 use Rattle.std.specs.Prelude.{◌≡◌, ◌⊎◌, ⊤, ℕ, Bool, true, false, zero, suc, length, sum_by, List}
 use Rattle.std.specs.Prelude.{[], ◌∷◌, ◌++◌, if◌then◌else◌, Option, None, Some, option_and_then}
 use Rattle.std.specs.Prelude.{Result, Ok, Err}
@@ -30,7 +31,7 @@ received (event ∷ events) = received_by event ++ received events
 abbrev pub Passes : List Event → List Event → List (List ℕ) → Type 0
 Passes before after texts = received after ≡ received before ++ texts
 
--- How many of so many messages a link may read: none unless the hub may hear its session.
+-- The number that a link may read of so many messages: none unless the hub may hear its session.
 abbrev pub allowed_reads : Hub → Option ℕ → ℕ → ℕ
 allowed_reads hub session most =
     if may_hear (option_and_then (session_of hub) session) then most else 0

@@ -1,4 +1,4 @@
--- What a link writes of its reply to a handshake.
+-- The part of its reply to a handshake that a link writes.
 use Rattle.std.specs.Prelude.{◌≡◌, ℕ, List, ◌++◌, Option, ⊤, true, string_bytes}
 use Rattle.std.specs.Io.KnownBytes.{Appends, Consumes}
 use Rattle.relay_shake.specs.Shaken.{AnswersHead, AnswersNoHead}
@@ -68,8 +68,8 @@ module _ {S : Type 0} where
   IfReplies (Open socket s) P = P
   IfReplies _ P = ⊤
 
-  -- What a turn writes of a reply. A link that waits for its head begins one, and a link that
-  -- replies goes on with what it kept.
+  -- The part of a reply that a turn writes. A link that waits for its head begins one, and a link
+  -- that replies goes on with what it kept.
   abbrev pub Replies : (S → Option (List ℕ)) → (S → Option (List ℕ)) → Entrance → State S
       → State S → Type 0
   Replies remaining contents entrance (Head stream bytes) new =

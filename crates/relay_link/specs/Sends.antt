@@ -1,5 +1,5 @@
--- What a turn gives to the stream of its link: the reply to a head, and the frames of what the
--- link's session drew.
+-- The bytes that a turn gives to the stream of its link: the reply to a head, and the frames of
+-- what the link's session drew.
 use Rattle.std.specs.Prelude.{⊤, ℕ, List, [], Option, Some}
 use Rattle.tungstenite.specs.Socket.{Socket}
 use Rattle.relay_hub.specs.State.{State as Hub}

@@ -1,4 +1,4 @@
--- Why a turn of an open link draws no more.
+-- The cause for which a turn of an open link draws no more.
 use Rattle.std.specs.Prelude.{◌≡◌, ◌+◌, ◌<◌, ℕ, true, List, Option, None, Some, option_map, IfSome}
 use Rattle.std.specs.Prelude.{IsSomeAnd}
 use Rattle.relay_hub.specs.Session.{waiting}
@@ -22,9 +22,9 @@ abbrev pub SomethingWaits : Hub → ℕ → Type 0
 SomethingWaits hub s = IsSomeAnd (option_map waiting (session_of hub s)) (λ n. 0 < n)
 
 module _ {S : Type 0} where
-  -- What holds if the draws of session s, of which so many may be made, stopped for a reason: of
-  -- the hub after them, of the events before and after, and of the socket. The stream of a socket
-  -- is blocked if its last write or flush failed, be it for want of capacity.
+  -- The facts that hold if the draws of session s, of which so many may be made, stopped for a
+  -- reason: of the hub after them, of the events before and after, and of the socket. The stream of
+  -- a socket is blocked if its last write or flush failed, be it for want of capacity.
   abbrev pub Stops : DrawStop → ℕ → ℕ → Hub → List Event → List Event → Socket (CorkedWriter S)
       → Type 0
   Stops Empty most s hub before after socket = NothingWaits hub s

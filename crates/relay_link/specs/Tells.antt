@@ -1,4 +1,4 @@
--- What an open link sends in a turn: the frames of the texts that it draws.
+-- The output that an open link sends in a turn: the frames of the texts that it draws.
 use Rattle.std.specs.Prelude.{◌≡◌, ⊤, ℕ, List, [], Option, Some, IsUtf8}
 use Rattle.std.specs.List.{AllByRecursion}
 use Rattle.std.specs.Io.KnownBytes.{Appends}

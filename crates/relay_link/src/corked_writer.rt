@@ -14,7 +14,7 @@ use std::io::{BufWriter, Read, Result, Write};
 /// written together.
 const OUTPUT_BUFFER: usize = 640;
 
-/// What a link has asked of its stream since the stream's last call.
+/// The requests that a link has made of its stream since the stream's last call.
 #[derive(Clone, Copy)]
 struct Orders {
     begins_read_turn: bool,
@@ -110,40 +110,40 @@ impl<S: Write + Drop> CorkedWriter<S> {
         });
     }
 
-    /// Whether the buffer has output.
+    /// True if the buffer has output.
     pub(crate) fn has_output(&self) -> bool
         ensures { result ≡ not (length (writer_buffer self.now.writer) == 0) }
     {
         !self.writer.buffer().is_empty()
     }
 
-    /// Whether the buffer has output and is corked.
+    /// True if the buffer has output and is corked.
     pub(crate) fn has_corked_output(&self) -> bool
         ensures { result ≡ self.now.is_corked && not (length (writer_buffer self.now.writer) == 0) }
     {
         self.is_corked && self.has_output()
     }
 
-    /// Whether the stream's last write or flush failed, so that output may be unsent.
+    /// True if the stream's last write or flush failed, so that output may be unsent.
     pub(crate) fn is_blocked(&self) -> bool
         ensures { result ≡ is_blocked self.now }
     {
         self.writer.get_ref().is_blocked()
     }
 
-    /// Whether the stream's last call failed, and not only for now.
+    /// True if the stream's last call failed, and not only for now.
     pub(crate) fn has_failed(&self) -> bool
         ensures { result ≡ has_failed self.now }
     {
         self.writer.get_ref().has_failed()
     }
 
-    /// Whether a read gave as many bytes as it asked for.
+    /// True if a read gave as many bytes as it asked for.
     pub(crate) fn has_filled_a_read(&self) -> bool {
         self.writer.get_ref().has_filled_a_read()
     }
 
-    /// Whether nothing has asked for another turn.
+    /// True if nothing has asked for another turn.
     pub(crate) fn is_idle(&self) -> bool
         ensures { result ≡ not (writer_inner self.now.writer).wants_turn }
     {

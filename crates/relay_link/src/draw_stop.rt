@@ -1,6 +1,6 @@
-//! Why a turn draws no more.
+//! Causes for which a turn draws no more.
 
-/// Why a turn of an open link drew no more messages.
+/// The cause for which a turn of an open link drew no more messages.
 ///
 /// ```
 /// let wire = Wire::new(alloc);

@@ -1,8 +1,8 @@
-//! Why a link leaves a stage.
+//! Causes for which a link leaves a stage.
 use tungstenite::Error;
 use websocket::error::ProtocolError;
 
-/// Why a link failed to open, is no longer open, or is gone.
+/// The cause for which a link failed to open, is no longer open, or is gone.
 ///
 /// ```
 /// let wire = Wire::new(alloc);

@@ -36,7 +36,7 @@ impl Entrance {
         Entrance::Only(IndexSet::new(alloc))
     }
 
-    /// Whether clients may enter no room. Allocates nothing.
+    /// Returns true if clients may enter no room. Allocates nothing.
     ///
     /// ```
     /// let mut entrance = Entrance::closed(alloc);
@@ -50,7 +50,7 @@ impl Entrance {
         matches!(self, Entrance::Only(names) if names.is_empty())
     }
 
-    /// Whether clients may enter the room of a name. Allocates nothing.
+    /// Returns true if clients may enter the room of a name. Allocates nothing.
     ///
     /// ```
     /// assert!(rt; Entrance::Open.lets_in("board") && !Entrance::closed(alloc).lets_in("board"));

@@ -1,7 +1,7 @@
-//! Why the rooms in which clients may enter stay as they are.
+//! Causes for which the rooms in which clients may enter stay as they are.
 use std::alloc::AllocError;
 
-/// Why a room is not opened to clients, or not closed.
+/// The cause for which a room is not opened to clients, or not closed.
 ///
 /// ```
 /// let mut entrance = Entrance::Open;

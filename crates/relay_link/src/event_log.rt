@@ -13,7 +13,7 @@ pub(crate) struct EventLog {
     events: Vec<Event>,
     /// The bytes of the texts that were drawn.
     drawn: u64,
-    /// Why the hub opened no session, if it was asked for one.
+    /// The cause for which the hub opened no session, if it was asked for one.
     fault: Cell<Option<OpenFault>>,
     /// The index of the room of the session that it opened.
     room_index: Cell<Option<usize>>,
@@ -79,7 +79,7 @@ impl EventLog {
         self.fault.set(Some(fault));
     }
 
-    /// Why the hub opened no session, if it was asked for one.
+    /// Returns the cause for which the hub opened no session, if it was asked for one.
     pub(crate) fn fault(&self) -> Option<OpenFault> {
         self.fault.get()
     }

@@ -65,7 +65,7 @@ pub(crate) fn enter(
     opened
 }
 
-/// Whether the hub answered an opening. Out of memory is no answer.
+/// True if the hub answered an opening. Out of memory is no answer.
 fn is_answered(opened: Result<Opening, OpenFault>) -> bool
     ensures { result ≡ is_some (opening opened) }
 {

@@ -130,10 +130,10 @@ impl<S: Read + Write + Drop> Link<S> {
         self.state.stage()
     }
 
-    /// Whether a further turn has no work until either the stream is ready or a message waits for
-    /// the session.
-    /// `false` in three cases: the last read turn found a close; it found a message, and more bytes
-    /// were read or may be in the stream; a turn since then was interrupted or out of memory.
+    /// Returns true if a further turn has no work until either the stream is ready or a message
+    /// waits for the session. `false` in three cases: the last read turn found a close; it found a
+    /// message, and more bytes were read or may be in the stream; a turn since then was interrupted
+    /// or out of memory.
     ///
     /// ```
     /// let wire = Wire::new(alloc);
@@ -151,7 +151,7 @@ impl<S: Read + Write + Drop> Link<S> {
         self.state.is_idle()
     }
 
-    /// Whether output of [`Link::read_turn`] is corked. Allocates nothing.
+    /// Returns true if output of [`Link::read_turn`] is corked. Allocates nothing.
     ///
     /// ```
     /// let wire = Wire::new(alloc);

@@ -5,8 +5,8 @@ ghost use Rattle.relay_link.specs.Stream.{is_nothing_now, is_failure};
 use std::io;
 use std::io::{Error, ErrorKind, Read, Write};
 
-/// How many bytes the reads of a turn ask for together at most. So a side that never stops sending,
-/// in however small frames, cannot delay the others.
+/// The maximum number of bytes that the reads of a turn ask for together. So a side that never
+/// stops sending, in however small frames, cannot delay the others.
 const MAX_ASKED: usize = 163_840;
 
 /// A stream that returns `WouldBlock` for an interruption, since a socket would otherwise retry at
@@ -15,21 +15,21 @@ const MAX_ASKED: usize = 163_840;
 #[derive(Drop)]
 pub(crate) struct NonBlocking<S> {
     stream: S,
-    /// How many bytes may still be asked for in this turn.
+    /// The number of bytes that may still be asked for in this turn.
     left: usize,
-    /// Whether the last read gave as many bytes as it asked for.
+    /// True if the last read gave as many bytes as it asked for.
     last_filled: bool,
-    /// Whether any read did.
+    /// True if any read did.
     filled: bool,
-    /// How many of the bytes that were read are not yet taken, at most.
+    /// The maximum number of bytes that were read and are not yet taken.
     untaken: usize,
-    /// Whether another turn may have work although no new event is ready.
+    /// True if another turn may have work although no new event is ready.
     wants_turn: bool,
-    /// Whether a write failed, or accepted no byte.
+    /// True if a write failed, or accepted no byte.
     broken: bool,
-    /// Whether the last write or flush failed, be it for want of capacity.
+    /// True if the last write or flush failed, be it for want of capacity.
     blocked: bool,
-    /// Whether the last call failed, and not only for now.
+    /// True if the last call failed, and not only for now.
     failed: bool,
 }
 
@@ -79,8 +79,8 @@ impl<S> NonBlocking<S> {
         }
     }
 
-    /// Whether, since the last read turn began, no call was interrupted, and nothing asked for
-    /// another turn. A write does not ask for one: unsent output waits until the stream is
+    /// Returns true if, since the last read turn began, no call was interrupted, and nothing asked
+    /// for another turn. A write does not ask for one: unsent output waits until the stream is
     /// writable.
     pub(crate) fn is_idle(&self) -> bool
         ensures { result ≡ not self.now.wants_turn }
@@ -88,19 +88,19 @@ impl<S> NonBlocking<S> {
         !self.wants_turn
     }
 
-    /// Whether a read gave as many bytes as it asked for.
+    /// True if a read gave as many bytes as it asked for.
     pub(crate) fn has_filled_a_read(&self) -> bool {
         self.filled
     }
 
-    /// Whether the last write or flush failed, so that output may be unsent.
+    /// True if the last write or flush failed, so that output may be unsent.
     pub(crate) fn is_blocked(&self) -> bool
         ensures { result ≡ self.now.blocked }
     {
         self.blocked
     }
 
-    /// Whether the last call failed, and not only for now.
+    /// True if the last call failed, and not only for now.
     pub(crate) fn has_failed(&self) -> bool
         ensures { result ≡ self.now.failed }
     {
@@ -204,7 +204,7 @@ impl<S: Write> Write for NonBlocking<S> {
     }
 }
 
-/// Whether a write failed permanently.
+/// True if a write failed permanently.
 fn is_break(written: &io::Result<usize>) -> bool {
     match written {
         Ok(len) => *len == 0,
@@ -212,14 +212,14 @@ fn is_break(written: &io::Result<usize>) -> bool {
     }
 }
 
-/// Whether the stream merely has nothing to read, or no capacity to write, for now.
+/// True if the stream merely has nothing to read, or no capacity to write, for now.
 pub(crate) fn is_nothing_now(error: &Error) -> bool
     ensures { result ≡ is_nothing_now error.now }
 {
     matches!(error.kind(), ErrorKind::WouldBlock)
 }
 
-/// Whether a call failed, and not only for now.
+/// True if a call failed, and not only for now.
 fn is_failure<T>(called: &io::Result<T>) -> bool
     ensures { result ≡ is_failure called.now }
 {

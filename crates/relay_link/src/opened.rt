@@ -29,7 +29,7 @@ use std::alloc::Global;
 use std::io::{Read, Write};
 use tungstenite::{CloseCode, Message, Utf8Bytes};
 
-/// How an open link ends.
+/// The end of an open link.
 #[derive(Clone, Copy)]
 enum Ending {
     /// The closing handshake goes on: a close was sent, and the other side's is awaited; or that

@@ -39,7 +39,7 @@ const GROWN_READ_BUFFER: usize = 8_192;
 /// longer message ends the link with [`EndCause::Broken`].
 const MAX_MESSAGE: usize = 1_056_768;
 
-/// How many bytes of output are collected before they are written.
+/// The number of bytes of output that are collected before they are written.
 const MAX_GATHERED: usize = 65_536;
 
 /// A socket on a stream whose handshake is done.
@@ -110,8 +110,8 @@ fn note_found<S: Write + Drop>(stream: &CorkedWriter<S>, message: &Message) {
     }
 }
 
-/// How many bytes the frames of a received message have at least: a header with a masking key, and
-/// the payload (RFC 6455, section 5.2).
+/// The minimum number of bytes in the frames of a received message: a header with a masking key,
+/// and the payload (RFC 6455, section 5.2).
 fn least_len(message: &Message) -> usize {
     let payload = message.len();
     let header = match payload {
@@ -167,7 +167,7 @@ pub(crate) fn close<S: Read + Write + Drop>(
     is_sent(socket.close(Some(CloseFrame { code, reason })))
 }
 
-/// Whether a call has sent all unsent output.
+/// True if a call has sent all unsent output.
 fn is_sent(sent: Result<(), Error>) -> Result<bool, EndCause>
     requires { IfErr sent IsOfSocket }
     ensures not_silent { IfErr result IsNotSilent }

@@ -57,7 +57,7 @@ impl<S: Write + Drop> State<S> {
         }
     }
 
-    /// Whether an open link has corked output.
+    /// True if an open link has corked output.
     pub(crate) fn has_corked_output(&self) -> bool
         ensures { result ≡ has_corked_output self.now }
     {

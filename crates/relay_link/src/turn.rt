@@ -9,7 +9,7 @@ use crate::end_cause::EndCause;
 use crate::stage::Stage;
 use relay_hub::{Event, OpenFault};
 
-/// What a turn did, and the stage that it left the link in.
+/// The work of a turn, and the stage that it left the link in.
 ///
 /// ```
 /// let wire = Wire::new(alloc);
@@ -30,21 +30,21 @@ pub struct Turn {
     /// The cause, if the turn ended the handshake without opening the link, ended an open link, or
     /// ended its closing.
     pub cause: Option<EndCause>,
-    /// Why it drew no more, if it found the link open and left it so.
+    /// The cause for which it drew no more, if it found the link open and left it so.
     pub stop: Option<DrawStop>,
-    /// How many bytes the texts have that the turn drew.
+    /// The number of bytes in the texts that the turn drew.
     pub drawn: u64,
-    /// What the hub's work costs, in microseconds: an estimate that counts the work
+    /// The cost of the hub's work, in microseconds: an estimate that counts the work
     /// ([`relay_hub::Hub::cost`]). No clock is read.
     pub cost: u64,
-    /// Why the hub opened no session, if the turn asked it for one.
+    /// The cause for which the hub opened no session, if the turn asked it for one.
     pub fault: Option<OpenFault>,
     /// The room of a valid handshake that was turned away, since clients may not enter there.
     pub turned_away: Option<String>,
 }
 
 impl Turn {
-    /// Whether the turn passed a text to the hub. Allocates nothing.
+    /// Returns true if the turn passed a text to the hub. Allocates nothing.
     ///
     /// ```
     /// let wire = Wire::new(alloc);
@@ -64,8 +64,8 @@ impl Turn {
             .any(|event| matches!(event, Event::Receive { .. }))
     }
 
-    /// How many bytes the texts have that the turn passed to the hub; `u64::MAX` if they have more.
-    /// Allocates nothing.
+    /// Returns the number of bytes in the texts that the turn passed to the hub; `u64::MAX` if they
+    /// have more. Allocates nothing.
     ///
     /// ```
     /// let wire = Wire::new(alloc);
@@ -83,7 +83,7 @@ impl Turn {
         bytes_received(self.events.as_slice())
     }
 
-    /// Whether the turn made a draw, with or without a text. Allocates nothing.
+    /// Returns true if the turn made a draw, with or without a text. Allocates nothing.
     ///
     /// ```
     /// let wire = Wire::new(alloc);
@@ -113,7 +113,7 @@ fn bytes_received(events: &[Event]) -> u64
     bytes
 }
 
-/// How many bytes the text has that an event passes to the hub; 0 if it passes none.
+/// The number of bytes in the text that an event passes to the hub; 0 if it passes none.
 fn len_received(event: &Event) -> u64
     ensures { result ≡ received_len event.now }
 {

@@ -2,7 +2,7 @@
 ghost use Rattle.std.specs.Prelude.{◌≡◌, cond};
 ghost use Rattle.relay_link.specs.Adds.{texts_of};
 
-/// Which phases a turn runs.
+/// The phases that a turn runs.
 #[derive(Clone, Copy, Debug, PartialEq, Eq)]
 pub(crate) enum TurnPhase {
     /// The link reads, and an open link receives at most one text. Its output stays corked.
@@ -14,7 +14,7 @@ pub(crate) enum TurnPhase {
 }
 
 impl TurnPhase {
-    /// Whether the link reads.
+    /// True if the link reads.
     pub(crate) fn reads(self) -> bool
         ensures { texts_of self ≡ cond result 1 0 }
     {

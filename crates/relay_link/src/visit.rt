@@ -22,7 +22,7 @@ use std::alloc::{AllocError, Global};
 /// watch or a resume makes due.
 const MAX_TEXTS: usize = 3;
 
-/// What a visit did, and how it went.
+/// The work of a visit, and its outcome.
 ///
 /// ```
 /// let mut hub = Hub::new(alloc, 1, 1, 64, 32).ok()?;
@@ -42,7 +42,7 @@ pub struct Visit {
     pub outcome: VisitOutcome,
     /// The index of its room in the hub ([`Hub::room_of`]), if it entered one.
     pub room_index: Option<usize>,
-    /// What the hub's work cost, in microseconds ([`Hub::cost`]).
+    /// The cost of the hub's work, in microseconds ([`Hub::cost`]).
     pub cost: u64,
 }
 

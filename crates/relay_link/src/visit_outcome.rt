@@ -1,11 +1,11 @@
-//! How a visit went.
+//! The outcome of a visit.
 ghost use Rattle.std.specs.Prelude.{◌≡◌, ℕ, List, [], ◌∷◌, cond};
 ghost use Rattle.relay_link.specs.Visits.{heard_in, lacked_memory};
 
 use relay_hub::{OpenFault, Opening};
 
-/// How a visit went: whether a session was opened, its text passed to the hub, and what waited for
-/// it drawn.
+/// The outcome of a visit: whether a session was opened, its text passed to the hub, and what
+/// waited for it drawn.
 ///
 /// ```
 /// let mut hub = Hub::new(alloc, 1, 1, 64, 32).ok()?;
@@ -27,7 +27,7 @@ pub enum VisitOutcome {
 }
 
 impl VisitOutcome {
-    /// Whether the hub heard the text.
+    /// True if the hub heard the text.
     ///
     /// ```
     /// let opening = Opening { session: 1, rev: 0 };
@@ -43,7 +43,7 @@ impl VisitOutcome {
         }
     }
 
-    /// Whether memory was refused.
+    /// True if memory was refused.
     ///
     /// ```
     /// assert!(rt; VisitOutcome::Refused(OpenFault::NoMemory).lacked_memory());

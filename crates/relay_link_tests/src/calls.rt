@@ -30,7 +30,7 @@ end => 11 whole, 6 by the peer, 6 by the stream
 
 const WATCH: &str = r#"{"do":"watch","id":1,"view":[""]}"#;
 
-/// What the client does. Each is done after the one before it was read and answered.
+/// The acts of the client. Each is done after the one before it was read and answered.
 const MESSAGES: [&str; 5] = [
     ASKS,
     r#"says {"do":"watch","id":1,"view":[""]}"#,
@@ -58,8 +58,8 @@ const WHOLE: &str = "Peer Peer Gone, 0 wrong\n\
      > {\"kind\":\"patch\",\"patch\":[{\"op\":\"replace\",\"path\":\"/0/0/x\",\"value\":2}],\"rev\":2} \
      > close 1000\n";
 
-/// How the result begins of a run that ends by the peer, by a call that accepts nothing, and by one
-/// that fails.
+/// The beginning of the result of a run that ends by the peer, by a call that accepts nothing, and
+/// by one that fails.
 const BY_PEER: &str = "Peer Gone, 0 wrong\n";
 
 const BY_STREAM: &str = "Stream Gone, 0 wrong\n";
@@ -100,7 +100,7 @@ fn drawn(alloc: Global, hub: &mut Hub) -> Option<String> {
     Some(texts)
 }
 
-/// Whether an event names session 2, or opens a session in room `a` that may edit.
+/// True if an event names session 2, or opens a session in room `a` that may edit.
 fn is_own(event: &Event) -> bool {
     match event {
         Event::Open { room, access } => room.as_str() == "a" && *access == Access::ReadWrite,
@@ -123,7 +123,7 @@ impl<'a> Run<'a> {
         })
     }
 
-    /// Whether the next message may be sent.
+    /// Returns true if the next message may be sent.
     fn may_come(&self) -> Option<bool> {
         let is_ready = match self.side.link.stage() {
             Stage::Head => self.next == 0,
@@ -206,12 +206,12 @@ impl<'a> Run<'a> {
     }
 }
 
-/// What comes of a run over a wire.
+/// The outcome of a run over a wire.
 fn told_of(alloc: Global, wire: &RefCell<Wire>) -> Option<String> {
     Run::new(alloc, wire)?.told(alloc)
 }
 
-/// What comes of a run in which one call has a fault.
+/// The outcome of a run in which one call has a fault.
 fn told_at(alloc: Global, call: u64, fault: InjectedFault) -> Option<String> {
     let wire = Wire::new(alloc);
     wire.try_borrow_mut().ok()?.trick = Some((call, fault));
@@ -275,7 +275,7 @@ impl Runs {
         (told.as_str() == WHOLE).then_some(counted.ok()?)
     }
 
-    /// How the runs end in which one call has the fault: one run for each call.
+    /// The ends of the runs in which one call has the fault: one run for each call.
     fn ends(self, alloc: Global, fault: InjectedFault, by_stream: &str) -> Option<String> {
         let mut ends = Ends {
             whole: 0,

@@ -133,7 +133,7 @@ fn a_socket_hears_what_a_turn_drew(rt: HostRuntime) {
 /// A frame with a snapshot.
 const SNAPSHOT: &[u8] = b"\x81\x25{\"kind\":\"snapshot\",\"rev\":1,\"view\":[]}";
 
-/// What comes after the snapshot, and what the client answers.
+/// The bytes that come after the snapshot, and the client's answer.
 const ENDS: [(&[u8], Result<(), ReceiveFault>); 10] = [
     (b"", Ok(())),
     (b"\x81", Err(ReceiveFault::NotFrames)),
@@ -185,7 +185,7 @@ fn name_of(heard: &Result<(), SocketFault>) -> &'static str {
     }
 }
 
-/// What arrives at a socket, and what it answers.
+/// The bytes that arrive at a socket, and its answer.
 const ARRIVALS: [(&[u8], &str); 6] = [
     (SNAPSHOT, "heard"),
     (b"", "socket"),

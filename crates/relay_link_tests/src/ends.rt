@@ -1,7 +1,7 @@
 //! The end of a link in each stage: from this side, or because its stream ends or fails.
 use crate::links::play_anew;
 
-/// What leads to a stage, the row that ends the link, and that it stays ended.
+/// The rows that lead to a stage, the row that ends the link, and that it stays ended.
 const ROWS: &str = r#"
 # Nothing has arrived yet.
 end => Gone by Ended

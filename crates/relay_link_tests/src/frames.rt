@@ -1,7 +1,8 @@
 //! The frames that an open link receives (RFC 6455, section 5). All masks of the client are zeros.
 use crate::links::play_anew;
 
-/// What arrives at an open link, and what the link makes of it. The sections are those of RFC 6455.
+/// The bytes that arrive at an open link, and what the link makes of it. The sections are those of
+/// RFC 6455.
 const ROWS: &str = r#"
 # A binary message closes the link.
 enter

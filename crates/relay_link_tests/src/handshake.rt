@@ -2,7 +2,7 @@
 //! may be written in pieces.
 use crate::links::play_anew;
 
-/// What a new link makes of a head.
+/// The answer of a new link to a head.
 const ROWS: &str = r#"
 # A link opens and ends.
 look => Head

@@ -58,7 +58,7 @@ fn wanted(alloc: Global, letters: &str) -> Option<Vec<u8>> {
     frame(alloc, text.ok()?.as_str())
 }
 
-/// Whether a turn writes that frame, which is longer than `LEN`.
+/// Returns true if a turn writes that frame, which is longer than `LEN`.
 fn is_sent(alloc: Global, wire: &RefCell<Wire>, hub: &mut Hub) -> Option<bool> {
     let letters = "a".repeat(alloc, LEN / 2).ok()?;
     let wanted = wanted(alloc, letters.as_str())?;

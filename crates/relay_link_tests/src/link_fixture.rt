@@ -7,7 +7,7 @@ use relay_test_stream::{End, Wire, cut, in_words};
 use std::alloc::{AllocError, Global};
 use std::cell::{RefCell, RefMut};
 
-/// How many rooms may be open by name.
+/// The number of rooms that may be open by name.
 const MOST_OPEN: u64 = 64;
 
 /// The act by which a client asks for the room `a`.
@@ -24,7 +24,7 @@ pub(crate) struct LinkFixture<'a> {
     wire: &'a RefCell<Wire>,
     pub link: Link<End<'a>>,
     draws: u64,
-    /// Whether a client may enter by a read turn.
+    /// Decides whether a client may enter by a read turn.
     entrance: Entrance,
 }
 
@@ -144,7 +144,7 @@ impl<'a> LinkFixture<'a> {
         Some(told)
     }
 
-    /// Whether the link is idle, and has output that is corked.
+    /// Says whether the link is idle, and has output that is corked.
     pub fn flags(&self, alloc: Global) -> Option<String> {
         let idle = if self.link.is_idle() { "idle" } else { "busy" };
         let corked = if self.link.has_corked_output() {

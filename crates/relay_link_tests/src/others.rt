@@ -1,7 +1,7 @@
 //! A link beside other sessions of the same hub.
 use crate::links::play_anew;
 
-/// What a link does, and what comes of a session beside it.
+/// The acts of a link, and the outcome of a session beside it.
 const ROWS: &str = r#"
 # The outbox of a watcher that never reads stays bounded, and the other session keeps working.
 hub 4

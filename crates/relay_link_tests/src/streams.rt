@@ -1,7 +1,7 @@
 //! Streams that interrupt, that move one byte at a time, or that never end.
 use crate::links::play_anew;
 
-/// What a stream does, and that each turn ends.
+/// The acts of a stream, and that each turn ends.
 const ROWS: &str = r#"
 # Writes that are interrupted hang no turn.
 writes interrupt => Head

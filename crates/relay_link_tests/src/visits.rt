@@ -119,7 +119,7 @@ impl Visitor {
         told(alloc, &visit).ok()
     }
 
-    /// How many sessions are in a room, and at which revision it is.
+    /// The number of sessions in a room, and its revision.
     fn room(&self, alloc: Global, name: &str) -> Option<String> {
         for place in 0..2 {
             match self.hub.room_at(place) {
@@ -172,7 +172,7 @@ fn told(alloc: Global, visit: &Visit) -> Result<String, AllocError> {
 /// An edit of a visit to which memory is refused.
 const EDIT: &str = r#"{"do":"edit","id":1,"patch":[{"op":"add","path":"","value":{"x":[1]}}]}"#;
 
-/// Whether the hub heard the text of a visit.
+/// True if the hub heard the text of a visit.
 fn is_heard(visit: &Result<Visit, AllocError>) -> bool {
     match visit {
         Ok(visit) => matches!(

@@ -1,7 +1,7 @@
 //! Read turns and write turns, what they cork, and whether a link is idle after a turn.
 use crate::links::play_anew;
 
-/// What arrives, which turn reads it, and which turn sends what came of it.
+/// The input that arrives, the turn that reads it, and the turn that sends what came of it.
 const ROWS: &str = r#"
 # A write turn reads nothing: it draws what waits, and a request waits for the next turn.
 asks 13 /rooms/a => open a; Open as 1 > switched

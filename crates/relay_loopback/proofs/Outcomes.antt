@@ -1,4 +1,4 @@
--- What comes of an event is one of the outcomes that can come of it.
+-- The outcome of an event is one of the outcomes that can come of it.
 use Rattle.std.specs.Prelude.{List, [], ◌∷◌}
 use Rattle.relay_hub.specs.State.{State}
 use Rattle.relay_hub.specs.Step.{DoesWill}

@@ -34,7 +34,7 @@ CanCome event (outcome.Answered answer.NoSession) = ⊤
 CanCome event outcome.Stuck = ⊤
 CanCome event came = ⊥
 
--- What comes of an event, from the sockets and the hub before it to those after it. A will is a
+-- The outcome of an event, from the sockets and the hub before it to those after it. A will is a
 -- step of the hub itself.
 abbrev pub Comes : {N L S : Type 0} → Transporting (Loopback N L S)
 Comes old DoWill came new = HubComes (hub_of old) DoWill came (hub_of new)

@@ -105,7 +105,7 @@ impl<S: Read + Write + Drop> ClientHandshake<S> {
     }
 }
 
-/// What stands behind the room's name in the target.
+/// The text that stands behind the room's name in the target.
 fn suffix_of(access: Access) -> &'static str {
     match access {
         Access::ReadWrite => "",

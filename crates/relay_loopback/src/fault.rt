@@ -6,7 +6,7 @@ use std::io;
 use std::net::SocketAddr;
 use thiserror::Error;
 
-/// Why a job with sockets ended early. Its connections are dropped.
+/// The cause for which a job with sockets ended early. Its connections are dropped.
 ///
 /// ```
 /// let fault = ServeFault::from(ScriptFault::Input);

@@ -1,4 +1,4 @@
--- What is asked of the way into a room, and the response by what came of it.
+-- The request for the way into a room, and the response by what came of it.
 use Rattle.std.specs.Prelude.{Result, Ok, Err}
 use Rattle.relay_admin.specs.declared.response.Response.{Response}
 use Rattle.relay_admin.specs.declared.response.Response.TheVariants as response

@@ -1,4 +1,4 @@
--- What an operator is told of a server's log, and how it changes.
+-- The numbers that an operator is told of a server's log, and how they change.
 use Rattle.std.specs.Prelude.{ℕ, ◌+◌, ◌-◌, ◌/◌, ◌^◌, min, nat_lt, Bool, false, Option, Some, None}
 use Rattle.std.specs.Duration.{as_nanos}
 use Rattle.std.specs.declared.time.Duration.{Duration}

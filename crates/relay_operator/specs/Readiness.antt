@@ -1,4 +1,4 @@
--- Which events are the admin port's, and what is known of that port.
+-- The events that are the admin port's, and what is known of that port.
 use Rattle.std.specs.Prelude.{Bool, false, ◌==◌, ◌||◌, not, ◌≡◌, ◌⊎◌, All, List, [], ◌∷◌, ◌++◌}
 use Rattle.std.specs.Prelude.{filter}
 use Rattle.relay_operator.specs.declared.admin_readiness.AdminReadiness.{AdminReadiness}

@@ -1,4 +1,4 @@
--- Which response answers a request that asks nothing of a room.
+-- The response that answers a request that asks nothing of a room.
 use Rattle.std.specs.Prelude.{◌≡◌, ⊤, ℕ, Bool, true, false, List, map, codes, string_bytes}
 use Rattle.json.specs.Print.{print}
 use Rattle.relay_admin.specs.Metrics.{metrics_text}

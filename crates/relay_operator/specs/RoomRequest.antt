@@ -1,4 +1,4 @@
--- What is asked of a room.
+-- The request that is made of a room.
 use Rattle.std.specs.Prelude.{if◌then◌else◌, string_bytes, Result, Ok, Err}
 use Rattle.relay_admin.specs.declared.answer.Ask.{Ask}
 use Rattle.relay_admin.specs.declared.answer.Ask.TheVariants as ask

@@ -1,4 +1,4 @@
--- How a request for a room is answered: by the visit that it comes to, or without one.
+-- The answer to a request for a room: by the visit that it comes to, or without one.
 use Rattle.std.specs.Prelude.{◌≡◌, ◌≢◌, ℕ, ◌+◌, Bool, true, false, List, [], map, slice_get, Option}
 use Rattle.std.specs.Prelude.{Some, None, string_bytes, Result, Ok, Err}
 use Rattle.json.specs.Lex.{tokens}

@@ -14,16 +14,16 @@ use std::alloc::{AllocError, Global};
 use std::io::{Error, ErrorKind, Read, Write};
 use std::net::{OpenStream, Shutdown};
 
-/// How many bytes one read takes at most.
+/// The maximum number of bytes that one read takes.
 const READ: usize = 1_024;
 
-/// How many reads are enough for a head that is too long.
+/// The number of reads that are enough for a head that is too long.
 const READS: usize = MAX_HEAD / READ + 1;
 
-/// How many reads of a body a turn makes at most.
+/// The maximum number of reads of a body that a turn makes.
 const BODY_READS: usize = 128;
 
-/// How often a turn tries to write at most.
+/// The maximum number of times that a turn tries to write.
 const WRITES: u32 = 64;
 
 /// A stream, what was received on it, and its response once there is one.
@@ -31,14 +31,16 @@ const WRITES: u32 = 64;
 pub(crate) struct AdminConnection<S> {
     stream: S,
     received: Vec<u8>,
-    /// What it asks of a room, while that has no response.
+    /// The request that it makes of a room, while that has no response.
     asked: Option<RoomRequest>,
     reply: Option<String>,
-    /// How many bytes of the response were sent.
+    /// The number of bytes of the response that were sent.
     sent: usize,
+    /// True if the stream was shut for writing. Each further call would be another event of it.
+    is_shut: bool,
 }
 
-/// What a connection's turn found.
+/// The work that a connection's turn found.
 #[derive(Clone, Copy, Debug, PartialEq, Eq)]
 pub(crate) enum Found {
     /// Nothing to do until the next event.
@@ -49,7 +51,7 @@ pub(crate) enum Found {
     Over,
 }
 
-/// What one read or one write came to.
+/// The result of one read or one write.
 #[derive(Clone, Copy, Debug, PartialEq, Eq)]
 pub(crate) enum Moved {
     /// So many bytes were moved, one or more.
@@ -74,10 +76,11 @@ impl<S: Read + Write + OpenStream + Drop> AdminConnection<S> {
             asked: None,
             reply: None,
             sent: 0,
+            is_shut: false,
         }
     }
 
-    /// Whether it has its response.
+    /// True if it has its response.
     pub(crate) fn is_answered(&self) -> bool
         ensures { result ≡ is_some self.now.reply }
     {
@@ -105,7 +108,8 @@ impl<S: Read + Write + OpenStream + Drop> AdminConnection<S> {
         found
     }
 
-    /// What it asks of a room, while that has no response and all of the request was received.
+    /// The request that it makes of a room, while that has no response and all of the request was
+    /// received.
     pub(crate) fn asked(&self) -> Option<&RoomRequest>
         ensures { option_copied result ≡ asked_by self.now }
     {
@@ -116,7 +120,7 @@ impl<S: Read + Write + OpenStream + Drop> AdminConnection<S> {
         }
     }
 
-    /// How many bytes of an edit's body are still to be received.
+    /// The number of bytes of an edit's body that are still to be received.
     fn missing(&self, edit: &EditRequest) -> usize
         ensures { result ≡ missing_of edit.now self.now.received.items }
     {
@@ -134,7 +138,7 @@ impl<S: Read + Write + OpenStream + Drop> AdminConnection<S> {
         &received[edit.head.min(end)..end]
     }
 
-    /// How much of an edit's body is still to be received, if it asks for one.
+    /// The number of bytes of an edit's body that are still to be received, if it asks for an edit.
     pub(crate) fn missing_body(&self) -> Option<usize>
         ensures { result ≡ missing_by self.now.asked self.now.received.items }
     {
@@ -250,7 +254,7 @@ impl<S: Read + Write + OpenStream + Drop> AdminConnection<S> {
         let from = self.sent.min(bytes.len());
         let rest = &bytes[from..];
         if rest.is_empty() {
-            let _ = self.stream.shutdown(Shutdown::Write);
+            self.shut();
             return Moved::Done;
         }
         match self.stream.write(rest) {
@@ -260,6 +264,16 @@ impl<S: Read + Write + OpenStream + Drop> AdminConnection<S> {
                 Moved::Bytes(len)
             }
             Err(error) => after(&error),
+        }
+    }
+
+    /// Shuts the stream for writing, once.
+    fn shut(&mut self)
+        ensures { Sends S.contents self.old self.new }
+    {
+        if !self.is_shut {
+            let _ = self.stream.shutdown(Shutdown::Write);
+            self.is_shut = true;
         }
     }
 
@@ -284,7 +298,7 @@ impl<S: Read + Write + OpenStream + Drop> AdminConnection<S> {
     }
 }
 
-/// What a read or a write that failed comes to.
+/// The result of a read or a write that failed.
 fn after(error: &Error) -> Moved
     ensures { result ≡ moved_after (error_kind error.now) }
 {

@@ -20,7 +20,7 @@ use std::io::{Read, Write};
 use std::mem;
 use std::net::{OpenListener, OpenStream};
 
-/// How many connections are held at most. A further one takes the place of the oldest.
+/// The maximum number of connections that are held. A further one takes the place of the oldest.
 pub const MAX_CONNECTIONS: usize = 8;
 
 /// A listener, and the connections to it, the oldest first. None waits for
@@ -30,22 +30,22 @@ pub const MAX_CONNECTIONS: usize = 8;
 pub struct AdminPort<L: OpenListener> {
     listener: L,
     connections: Vec<AdminConnection<L::Stream>>,
-    /// Whether a response that was given between turns is still to be sent.
+    /// True if a response that was given between turns is still to be sent.
     is_behind: bool,
-    /// What the server's log said so far, which the server counts.
+    /// The entries of the server's log so far, which the server counts.
     pub counters: Counters,
     /// No more connections are held than may be.
     ghost few: { vec_len connections ≤ MAX_CONNECTIONS },
 }
 
-/// What a turn of the admin port came to.
+/// The result of a turn of the admin port.
 #[derive(Clone, Copy, Debug, PartialEq, Eq)]
 pub struct AdminTurn {
-    /// Whether it left work for the next round.
+    /// True if it left work for the next round.
     pub has_more: bool,
-    /// Whether it was asked that clients may enter.
+    /// True if it was asked that clients may enter.
     pub is_opening: bool,
-    /// Whether a stop was asked.
+    /// True if a stop was asked.
     pub is_stopping: bool,
 }
 
@@ -256,7 +256,7 @@ where
         self.admission_at(self.first_to_admit()?)
     }
 
-    /// What the connection at an index asks of a room, while that has no response.
+    /// The request that the connection at an index makes of a room, while that has no response.
     fn asked_at(&self, index: usize) -> Option<&RoomRequest>
         ensures { option_copied result
             ≡ option_and_then asked_by (slice_get self.now.connections.items index) }
@@ -372,7 +372,7 @@ where
         self.is_behind = self.is_behind || found == Found::More;
     }
 
-    /// Whether a response that was given between turns is still to be sent, or a visit to be made.
+    /// True if a response that was given between turns is still to be sent, or a visit to be made.
     pub fn is_behind(&self) -> bool {
         self.is_behind || self.first_to_visit().is_some()
     }

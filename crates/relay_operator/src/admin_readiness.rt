@@ -5,7 +5,7 @@ ghost use Rattle.std.specs.Prelude.{◌≡◌, ◌/◌, IsErr, true, false};
 ghost use Rattle.relay_operator.specs.Readiness.{MayTellSecond, NoneIsAdmin, has_port, is_admin};
 ghost use Rattle.relay_operator.specs.Readiness.{is_ready, with_ready, without_admin};
 
-use crate::longest_round::LongestRound;
+use crate::longest_round::{LongestRound, micros_of};
 use crate::readiness::{Readiness, ReadyEvent};
 use std::io;
 use std::time::{Clock, Duration};
@@ -22,10 +22,10 @@ pub(crate) const ADMIN_STREAM: usize = usize::MAX - 2;
 pub struct AdminReadiness<'c, R, C> {
     inner: R,
     clock: &'c C,
-    /// Whether there is an admin port, and whether it may have work.
+    /// True if there is an admin port; and true if it may have work.
     has_port: bool,
     is_ready: bool,
-    /// When the last wait ended, by the clock.
+    /// The time at which the last wait ended, by the clock.
     began: Duration,
     /// The second of the clock that the last event told.
     second: u64,
@@ -64,7 +64,7 @@ impl<'c, R, C: Clock> AdminReadiness<'c, R, C> {
         readiness
     }
 
-    /// Whether the admin port may have work. It has none afterwards, until the next event.
+    /// Returns true if the admin port may have work. It has none afterwards, until the next event.
     pub fn take_ready(&mut self) -> bool
         ensures was { result ≡ is_ready self.old }
         ensures taken { self.new ≡ with_ready false self.old }
@@ -86,7 +86,7 @@ impl<'c, R, C: Clock> AdminReadiness<'c, R, C> {
         now(self.clock)
     }
 
-    /// How long the longest round of the last minute worked, in microseconds.
+    /// The time for which the longest round of the last minute worked, in microseconds.
     pub fn longest_round(&self) -> u64 {
         self.longest.longest()
     }
@@ -144,6 +144,10 @@ impl<S, R: Readiness<S>, C: Clock> Readiness<S> for AdminReadiness<'_, R, C> {
         self.tell_second(events);
         told
     }
+
+    fn micros(&self) -> u64 {
+        micros_of(self.now())
+    }
 }
 
 /// Drops the admin port's events.
@@ -153,7 +157,7 @@ fn drop_admin(events: &mut Vec<ReadyEvent>)
     events.retain(|event| !is_admin(event));
 }
 
-/// Whether an event is the admin port's.
+/// True if an event is the admin port's.
 fn is_admin(event: &ReadyEvent) -> bool
     ensures { result ≡ is_admin event.now }
 {

@@ -1,4 +1,4 @@
-//! What an operator sees of a server.
+//! An operator's view of a server.
 ghost use Rattle.std.specs.Prelude.{◌≡◌, ◌++◌, ◌∷◌, [], IfOk, OnOk, map, string_bytes};
 ghost use Rattle.json.specs.Lex.{tokens};
 ghost use Rattle.json.specs.Print.{print};
@@ -21,7 +21,7 @@ use std::alloc::{AllocError, Global};
 #[derive(Clone, Copy)]
 pub struct AdminView<'v> {
     pub hub: &'v Hub,
-    /// Whether no client may enter until an operator says so.
+    /// True if no client may enter until an operator says so.
     pub is_closed: bool,
     /// The rooms from which clients were turned away since they are not open.
     pub wanted: &'v [String],
@@ -29,14 +29,14 @@ pub struct AdminView<'v> {
     pub left: &'v [u64],
     /// The present second.
     pub second: u64,
-    /// How many connections are held, with and without a session.
+    /// The number of connections that are held, with and without a session.
     pub connections: u64,
     pub max_connections: u64,
-    /// How many wills of closed sessions were done.
+    /// The number of wills of closed sessions, those refused among them.
     pub wills: u64,
-    /// How many rounds there were.
+    /// The number of rounds so far.
     pub rounds: u64,
-    /// How long the longest round of the last minute worked, in microseconds.
+    /// The time for which the longest round of the last minute worked, in microseconds.
     pub longest_round: u64,
 }
 
@@ -97,7 +97,7 @@ impl AdminView<'_> {
         }
     }
 
-    /// Whether the relay serves its clients.
+    /// Says whether the relay serves its clients.
     fn health(&self, counters: &Counters) -> Response<'static>
         ensures { AnswersHealth self.now.is_closed (is_short_of_memory counters.entry.now) result }
     {

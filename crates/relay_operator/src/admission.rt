@@ -1,11 +1,11 @@
-//! What is asked of the way into a room, and the response by what came of it.
+//! Requests for the way into a room, and the response by what came of it.
 ghost use Rattle.std.specs.Prelude.{◌≡◌};
 ghost use Rattle.relay_operator.specs.Admission.{admission_response};
 
 use relay_admin::{Response, Unavailable};
 use relay_link::EntranceFault;
 
-/// What an operator asks of a room, by its name.
+/// The request of an operator for a room, by its name.
 #[derive(Clone, Copy, Debug, PartialEq, Eq)]
 pub enum Admission<'a> {
     /// `PUT`: that clients may enter it.

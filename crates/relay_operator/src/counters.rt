@@ -1,4 +1,4 @@
-//! What an operator is told of a server's log, in numbers.
+//! The numbers that an operator is told of a server's log.
 ghost use Rattle.std.specs.Prelude.{◌≡◌};
 ghost use Rattle.relay_operator.specs.Counters.{begun, is_short_of_memory, with_shed};
 
@@ -8,7 +8,8 @@ use std::time::Duration;
 /// For how many seconds a server counts as short of memory after its log said so.
 const SHORT: u64 = 60;
 
-/// How many entries of each kind the log of a server had since it began, and when memory was short.
+/// The number of entries of each kind that the log of a server had since it began, and the time at
+/// which memory was short.
 #[derive(Clone, Copy, Debug)]
 pub struct Counters {
     /// Sessions that were opened.
@@ -19,7 +20,7 @@ pub struct Counters {
     pub ended: EndedBy,
     /// Entries that say that memory was refused.
     pub(crate) shed: u64,
-    /// When the log last said that memory was refused.
+    /// The time at which the log last said that memory was refused.
     last_shed: Option<Duration>,
     /// The time of the present round.
     now: Duration,
@@ -52,7 +53,7 @@ impl Counters {
         self.last_shed = Some(self.now);
     }
 
-    /// Whether memory was refused within the last minute.
+    /// True if memory was refused within the last minute.
     pub(crate) fn is_short_of_memory(&self) -> bool
         ensures { result ≡ is_short_of_memory self.entry.now }
     {

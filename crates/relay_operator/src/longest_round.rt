@@ -1,11 +1,18 @@
 //! The longest of the rounds of the last minute.
 use std::time::Duration;
 
-/// How many parts of the last minute are kept apart.
+/// The number of parts of the last minute that are kept apart.
 const PARTS: usize = 6;
 
-/// How many seconds each part has.
+/// The number of seconds in each part.
 const SECONDS: u64 = 10;
+
+/// A duration in microseconds; `u64::MAX` if it is longer.
+pub(crate) fn micros_of(time: Duration) -> u64 {
+    time.as_secs()
+        .saturating_mul(1_000_000)
+        .saturating_add(u64::from(time.subsec_micros()))
+}
 
 /// The longest round of each ten seconds of the last minute, in microseconds. A round is forgotten
 /// 50 to 60 seconds after it.
@@ -29,11 +36,7 @@ impl LongestRound {
         let part = now.as_secs() / SECONDS;
         self.forget(part);
         let index = (part % PARTS as u64) as usize;
-        let micros = worked
-            .as_secs()
-            .saturating_mul(1_000_000)
-            .saturating_add(u64::from(worked.subsec_micros()));
-        self.parts[index] = self.parts[index].max(micros);
+        self.parts[index] = self.parts[index].max(micros_of(worked));
     }
 
     /// Makes `part` the newest one, and empties those that come anew.

@@ -11,7 +11,7 @@ use std::net::Net;
 use std::os::fd::AsRawFd;
 use std::time::Duration;
 
-/// What a stream is ready for.
+/// The operations that a stream is ready for.
 ///
 /// ```
 /// let ready = StreamReady { is_over: false, ..StreamReady::ALL };
@@ -21,7 +21,7 @@ use std::time::Duration;
 pub struct StreamReady {
     pub readable: bool,
     pub writable: bool,
-    /// Whether the stream failed, or the other side closed it: its end may follow its last bytes
+    /// True if the stream failed, or the other side closed it: its end may follow its last bytes
     /// without another event.
     pub is_over: bool,
 }
@@ -56,6 +56,10 @@ pub trait Readiness<S> {
     /// exceed the capacity come with the next call. After an error nothing is known: everything may
     /// be ready.
     fn wait(&mut self, most: Duration, events: &mut Vec<ReadyEvent>) -> io::Result<()>;
+
+    /// The time in microseconds, by a clock that never goes back, since a moment of its own. A
+    /// source without a clock stands still. No clause depends on it.
+    fn micros(&self) -> u64;
 }
 
 /// The maximum number of events that one system call returns.
@@ -64,7 +68,7 @@ const MAX_EVENTS: usize = 256;
 /// The token of the listener. No slab has this key.
 const LISTENER: usize = usize::MAX;
 
-/// Readiness as the operating system reports it.
+/// Readiness as the operating system reports it. It has no clock ([`crate::AdminReadiness`] has).
 #[derive(Drop)]
 pub struct Polling {
     poll: Poll,
@@ -115,6 +119,10 @@ impl<S: AsRawFd> Readiness<S> for Polling {
             Ok(()) => Ok(()),
             Err(_) => Err(Error::from(ErrorKind::OutOfMemory)),
         }
+    }
+
+    fn micros(&self) -> u64 {
+        0
     }
 }
 

@@ -1,4 +1,4 @@
-//! What is asked of a room, and the response by what came of it.
+//! The request for a room, and the response by what came of it.
 ghost use Rattle.std.specs.Prelude.{◌≡◌, IfOk, map, string_bytes};
 ghost use Rattle.relay_operator.specs.RoomRequest.{asked_of_room};
 ghost use Rattle.relay_operator.specs.Visiting.{AnswersTexts, AnswersVisit, IsVisitResponse};
@@ -15,7 +15,7 @@ use relay_hub::{ForgetFault, Hub, OpenFault, Text};
 use relay_link::{Visit, VisitOutcome};
 use std::alloc::{AllocError, Global};
 
-/// What a connection asks of a room.
+/// The request of a connection for a room.
 #[derive(Drop)]
 pub(crate) enum RoomRequest {
     /// `PUT /open/NAME`: that clients may enter it.
@@ -31,7 +31,8 @@ pub(crate) enum RoomRequest {
 }
 
 impl RoomRequest {
-    /// What is asked of a room. If nothing is, or a name that is none of a room, it is returned.
+    /// The request for a room. If there is none, or it has a name that is none of a room, it is
+    /// returned as it was asked.
     pub(crate) fn of(asked: Ask) -> Result<RoomRequest, Ask>
         ensures { result ≡ asked_of_room asked }
     {
@@ -54,7 +55,7 @@ pub struct RoomVisit {
     pub text: Text,
 }
 
-/// What a request comes to, before the hub is asked.
+/// The result of a request, before the hub is asked.
 #[derive(Drop)]
 pub(crate) enum Prepared {
     Visit(RoomVisit),

@@ -1,4 +1,4 @@
--- Why there is no job, from an error of `clap`.
+-- The cause for which there is no job, from an error of `clap`.
 use Rattle.std.proofs.Common.{◌≡◌, [], inl, inr}
 use Rattle.clap.specs.Words.{HasKind, IsAmong, Kinds, kind_of}
 use Rattle.clap.specs.declared.error.Error.{Error}

@@ -1,4 +1,4 @@
--- What the command line means: its commands and options, their defaults, and the job that the
+-- The meaning of the command line: its commands and options, their defaults, and the job that the
 -- words ask for.
 use Rattle.std.specs.Prelude.{ℕ, ◌≡◌, ◌≢◌, ◌&&◌, ◌^◌, ◌⊎◌, ⊤, Bool, true, false, List, [], ◌∷◌}
 use Rattle.std.specs.Prelude.{Option, Some, None, option_and_then, if◌then◌else◌, codes, length}

@@ -28,20 +28,20 @@ pub enum Job {
         /// `--turns`: the number of rounds, 1 to 10^12. A stop at the operator's port may end them
         /// before.
         rounds: u64,
-        /// Whether the server logs its connections.
+        /// True if the server logs its connections.
         log: bool,
-        /// Whether the room that has been empty for the longest time is forgotten once all places
+        /// True if the room that has been empty for the longest time is forgotten once all places
         /// are taken.
         forget_rooms: bool,
-        /// Whether clients may enter only once the operator says so. There is one then.
+        /// True if clients may enter only once the operator says so. There is one then.
         closed: bool,
-        /// How much output is held for all connections together, in MiB: 1 to 2^20.
+        /// The amount of output that is held for all connections together, in MiB: 1 to 2^20.
         output_mib: u64,
         settings: Settings,
     },
 }
 
-/// Why there is no job.
+/// The cause for which there is no job.
 ///
 /// ```
 /// let words = [String::from_str(alloc, "relay").ok()?, String::from_str(alloc, "walk").ok()?];
@@ -51,7 +51,7 @@ pub enum Job {
 pub enum Stop {
     /// The requested help or version, for standard output.
     Help(String),
-    /// What is wrong with the arguments, for standard error.
+    /// The fault in the arguments, for standard error.
     Misuse(String),
     NoMemory,
 }

@@ -44,7 +44,7 @@ pub fn job_of(alloc: Global, words: &[String], now: Option<u64>) -> Result<Job, 
     }
 }
 
-/// What the words are to the commands and options of the program.
+/// Matches the words with the commands and options of the program.
 fn parsed<'a>(alloc: Global, words: &'a [String]) -> Result<ArgMatches<'a>, Error>
     ensures matches { IfOk result (λ matches. subcommand_rows_of matches
         ≡ subcommand_of relay_command (map string_bytes words.now)) }

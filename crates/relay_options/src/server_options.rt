@@ -210,7 +210,8 @@ fn admin_of(alloc: Global, given: &ArgMatches<'_>, port: u16) -> Result<Option<u
     }
 }
 
-/// Whether the server begins closed. That is refused without an operator, who alone can open it.
+/// Returns true if the server begins closed. That is refused without an operator, who alone can
+/// open it.
 fn closed_of(alloc: Global, given: &ArgMatches<'_>, admin: Option<u16>) -> Result<bool, Stop>
     ensures range { IfOk result (λ closed. CanBeOpened closed admin) }
     ensures given { IfOk result (IsFlagIn (codes "closed") (rows_of (found_of given.now))) }

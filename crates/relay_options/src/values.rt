@@ -1,4 +1,4 @@
-//! How the value of an option is read: a number within a range, an address, or a flag.
+//! Reads the value of an option: a number within a range, an address, or a flag.
 ghost use Rattle.std.specs.Prelude.{[], ◌≡◌, ◌≤◌, IfErr, IfOk, IfSome, Some};
 ghost use Rattle.clap.specs.Words.{found_of, rows_of, rule_of};
 ghost use Rattle.relay_options.specs.CommandLine.{IsAddressIn, IsFlagIn, IsNoHelp, number_in};
@@ -58,7 +58,7 @@ pub(crate) fn given_address(given: &ArgMatches<'_>, name: &str) -> Option<IpAddr
     given.get_one::<IpAddr>(name)
 }
 
-/// Whether the words name a flag.
+/// True if the words name a flag.
 pub(crate) fn is_set(given: &ArgMatches<'_>, name: &str) -> bool
     ensures { IsFlagIn name.now (rows_of (found_of given.now)) result }
 {

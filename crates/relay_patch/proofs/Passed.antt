@@ -1,4 +1,4 @@
--- What is known of an operation that passes.
+-- Facts of an operation that passes.
 use Rattle.std.proofs.Common.{◌≡◌, ℕ, Bool, true, false, Result, Ok, Err, refl, ap, subst, ◌∙◌}
 use Rattle.std.proofs.Common.{is_some, if◌then◌else◌}
 use Rattle.relay_tree.specs.Document.{Document, depth, weight}

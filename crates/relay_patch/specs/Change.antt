@@ -46,7 +46,7 @@ inserted_at false (t ∷ path) v d = at_path (in_object (insert_child v)) (t ∷
 abbrev pub inserted : Place → Document → Document → Result Document Cause
 inserted place v d = inserted_at place.item place.path v d
 
--- What a change makes of a document.
+-- The document that a change makes of another.
 
 -- v moves from one place to another, which takes the document d to d'
 pub record Moves (d : Document) (from to : Place) (v : Document) (d' : Document) : Type 0 where

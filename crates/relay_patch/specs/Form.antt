@@ -1,4 +1,4 @@
--- How a document is read as a patch or refused with its first fault, and how a patch is written
+-- A document is read as a patch or refused with its first fault, and a patch is written
 -- (RFC 6902, sections 3 and 4).
 use Rattle.std.specs.Prelude.{ℕ, List, [], ◌∷◌, length, codes, bytes_eq, Option, Some, None, Result}
 use Rattle.std.specs.Prelude.{Ok, Err, nat_le, nat_lt, if◌then◌else◌}

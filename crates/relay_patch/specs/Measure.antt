@@ -1,4 +1,4 @@
--- What a change adds to the depth and the weight of a document, and what it removes from them.
+-- The depth and the weight that a change adds to a document, and those that it removes.
 use Rattle.std.specs.Prelude.{ℕ, ◌+◌, ◌-◌, ◌^◌, ◌<◌, ◌≡◌, [], ◌∷◌, Bool, false, not, Option, Some}
 use Rattle.std.specs.Prelude.{None, option_and_then, Result, Ok, Err, length, if◌then◌else◌}
 use Rattle.std.specs.Bool.{⊤}

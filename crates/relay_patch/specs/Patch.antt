@@ -15,7 +15,7 @@ pub use Rattle.relay_patch.specs.declared.op.Op.{Op}
 pub use Rattle.relay_patch.specs.declared.op.Op.TheVariants.{Add, Remove, Replace, Move, Copy, Test}
 pub use Rattle.relay_patch.specs.declared.bounds.Bounds.{Bounds}
 
--- What is done in a container, to the part that a token names.
+-- Acts in a container, on the part that a token names.
 
 abbrev pub Act : Type 0
 Act = Token → Document → Result Document Cause
@@ -62,7 +62,7 @@ abbrev pub at_path : Act → Path → Document → Result Document Cause
 at_path act [] d = Err Root
 at_path act (t ∷ path) d = below act t path d
 
--- What the operations make of a document (RFC 6902, sections 4.1 to 4.6).
+-- The effects of operations on a document (RFC 6902, sections 4.1 to 4.6).
 
 abbrev pub added : Path → Document → Document → Result Document Cause
 added [] v d = Ok v

@@ -1,4 +1,4 @@
--- Where an operation inserts or removes.
+-- The place at which an operation inserts or removes.
 use Rattle.std.specs.Prelude.{[], ◌∷◌, ◌++◌, Bool, true, false, ◌&&◌, Option, Some, bytes_eq}
 use Rattle.std.specs.Prelude.{if◌then◌else◌}
 use Rattle.relay_tree.specs.Document.{Document, list, Items}

@@ -1,4 +1,4 @@
-//! How large a document may grow, and how much one patch may change.
+//! Bounds on the size of a document, and on the changes of one patch.
 use relay_tree::Budget;
 
 /// The most levels of a shared document.
@@ -28,8 +28,8 @@ pub struct Bounds {
     pub depth: u64,
     /// The largest weight of the document after each operation. `u64::MAX` means no bound.
     pub weight: u64,
-    /// What the changes of the patch may weigh together. A change weighs as much as its value and
-    /// its paths.
+    /// The weight that the changes of the patch may have together. A change weighs as much as its
+    /// value and its paths.
     pub changes: Budget,
 }
 

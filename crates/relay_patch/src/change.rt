@@ -2,8 +2,8 @@
 use relay_pointer::Pointer;
 use relay_tree::Tree;
 
-/// Where a value is removed or inserted. The path is canonical: `-` is replaced by the index that
-/// it names.
+/// The place at which a value is removed or inserted. The path is canonical: `-` is replaced by the
+/// index that it names.
 ///
 /// ```
 /// let mut cards = read(alloc, r#"["a", "b"]"#).ok()?;
@@ -18,12 +18,12 @@ use relay_tree::Tree;
 #[derive(Drop)]
 pub struct Place {
     pub path: Pointer,
-    /// Whether the last token is a position in a list, at which an element is removed or inserted.
+    /// True if the last token is a position in a list, at which an element is removed or inserted.
     pub item: bool,
 }
 
-/// What an accepted operation changed. A `test` changes nothing, and neither does a `move` to its
-/// own place.
+/// The change that an accepted operation made. A `test` changes nothing, and neither does a `move`
+/// to its own place.
 ///
 /// ```
 /// let mut board = read(alloc, r#"{"a": 1}"#).ok()?;

@@ -1,8 +1,8 @@
-//! Why a patch is not applied.
+//! The causes for which a patch is not applied.
 use std::alloc::AllocError;
 use thiserror::Error;
 
-/// Why an operation is refused. An operation's own checks come first, in the order of RFC 6902,
+/// The cause of an operation's refusal. Its own checks come first, in the order of RFC 6902,
 /// then the weight of the changes so far, and then the depth and the weight of the document that it
 /// made. Memory is allocated only after an operation's own checks have passed.
 ///

@@ -37,9 +37,9 @@ impl PatchLimits {
     };
 }
 
-/// Why a tree does not read as a patch. A list that is too long is refused before its elements are
-/// checked. Otherwise the fault is that of the first element that is refused, and `at` is its
-/// place, counted from 0.
+/// The fault of a tree that does not read as a patch. A list that is too long is refused before its
+/// elements are checked. Otherwise the fault is that of the first element that is refused, and `at`
+/// is its place, counted from 0.
 ///
 /// ```
 /// let ops = read(alloc, r#"[{"op": "remove", "path": "/a"}, {"op": "swap"}]"#).ok()?;

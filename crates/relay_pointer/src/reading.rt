@@ -20,7 +20,7 @@ use thiserror::Error;
 /// The most tokens of a pointer in a request.
 pub const MAX_TOKENS: u64 = 64;
 
-/// Why a text does not read as a pointer, in the order of the checks.
+/// The faults of a text that does not read as a pointer, in the order of the checks.
 ///
 /// ```
 /// // Behind `~` there has to be a 0 or a 1.

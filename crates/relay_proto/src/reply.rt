@@ -1,7 +1,7 @@
 //! Replies to requests, and to the opening of a session.
 use crate::word::Word;
 
-/// What follows the reply to a resume.
+/// The message that follows the reply to a resume, if any.
 ///
 /// ```
 /// let text = Reply::Resumed { id: 3, how: ResumeOutcome::Nothing }.text(alloc).ok()?;

@@ -18,13 +18,13 @@ use relay_tree::{Budget, Tree, end_text};
 use relay_view::View;
 use std::alloc::{AllocError, Global};
 
-/// How many bytes a message takes but for what it carries, at most.
+/// The bytes of a message but for what it carries, at most.
 const MESSAGE_BYTES: usize = 64;
 
-/// How many bytes an operation takes but for its path and its value, at most.
+/// The bytes of an operation but for its path and its value, at most.
 const OPERATION_BYTES: usize = 40;
 
-/// How many bytes a snapshot's text begins with room for.
+/// The capacity in bytes with which a snapshot's text begins.
 const SNAPSHOT_BYTES: usize = 128;
 
 /// A patch that weighs more begins with room for as many bytes.

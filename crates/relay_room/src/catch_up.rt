@@ -16,7 +16,7 @@ use relay_tree::Budget;
 use relay_view::View;
 use std::alloc::{AllocError, Global};
 
-/// What a client that holds the view of an earlier revision has missed.
+/// The changes that a client which holds the view of an earlier revision has missed.
 ///
 /// ```
 /// let mut room = Room::starting_at(alloc, read(alloc, "[1]").ok()?, 7, 64).ok()?;

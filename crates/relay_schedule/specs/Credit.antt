@@ -1,4 +1,4 @@
--- What a connection has left of what rounds gave it.
+-- The credit that a connection has left of what rounds gave it.
 use Rattle.std.specs.Prelude.{ℕ, ◌-◌, Bool, nat_lt}
 use Rattle.relay_schedule.specs.declared.credit.Credit.{Credit}
 use Rattle.relay_schedule.specs.declared.credit.TheConstants.{ROUND_CREDIT}

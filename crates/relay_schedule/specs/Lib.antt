@@ -7,3 +7,4 @@ pub mod Ready
 pub mod Representation
 pub mod Rooms
 pub mod ReadAhead
+pub mod TurnLine

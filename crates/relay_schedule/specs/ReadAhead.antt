@@ -1,5 +1,5 @@
--- What rooms were said since none of their connections waited to be written to, and what a call
--- makes of it.
+-- The texts that rooms were said since none of their connections waited to be written to, and what
+-- a call makes of them.
 use Rattle.std.specs.Prelude.{ℕ, ◌+◌, ◌-◌, ◌^◌, min, nat_lt, ◌&&◌, ◌||◌, ◌==◌, if◌then◌else◌, Bool}
 use Rattle.std.specs.Prelude.{List, [], slice_index_or, slice_set, refl}
 use Rattle.std.specs.Coded.{Coded, code_by, coded×, coded_list}

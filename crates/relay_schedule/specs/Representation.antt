@@ -1,13 +1,16 @@
 -- The fields of queues and of what rooms were said, as contracts see them.
-use Rattle.std.specs.Prelude.{◌≡◌, ℕ, ◌≤◌, Bool, false, List, length, slice_index_or, if◌then◌else◌}
+use Rattle.std.specs.Prelude.{◌≡◌, ℕ, ◌+◌, ◌≤◌, Bool, false, List, ◌++◌, length, slice_index_or}
+use Rattle.std.specs.Prelude.{if◌then◌else◌}
 use Rattle.std.specs.List.{count_by}
 use Rattle.std.specs.VecDeque.{deque_len, deque_capacity}
 use Rattle.relay_schedule.specs.Queue.{Keys, times}
 use Rattle.relay_schedule.specs.Ready.{Lines, AreLines}
 use Rattle.relay_schedule.specs.ReadAhead.{ReadAheads}
+use Rattle.relay_schedule.specs.TurnLine.{Line}
 use Rattle.relay_schedule.specs.declared.key_queue.KeyQueue.TheInside as key_queue
 use Rattle.relay_schedule.specs.declared.ready_queue.ReadyQueue.TheInside as ready_queue
 use Rattle.relay_schedule.specs.declared.read_ahead.ReadAheadByRoom.TheInside as by_room
+use Rattle.relay_schedule.specs.declared.turn_line.TurnLine.TheInside as turn_line
 
 -- the queue that contracts see
 abbrev pub keys_of : key_queue.Inside → Keys
@@ -24,6 +27,22 @@ pub record IsKept (queue : key_queue.Inside) : Type 0 where
   pub flagged : Flagged queue.queued.items queue.keys.items
   pub fits : deque_len queue.keys ≤ count_by (λ b. b) queue.queued.items
   pub room : length queue.queued.items ≤ deque_capacity queue.keys
+
+-- the line that contracts see
+abbrev pub line_of : turn_line.Inside → Line
+line_of line = record {
+  waiting = line.waiting.items;
+  served = line.served.items;
+  admitted = length line.standing.items;
+}
+
+-- the invariant of the fields: each key that stands in the line is flagged, and no other; and
+-- either part has memory for each key that has a flag
+pub record IsLinedUp (line : turn_line.Inside) : Type 0 where
+  pub flagged : Flagged line.standing.items (line.waiting.items ++ line.served.items)
+  pub fits : deque_len line.waiting + deque_len line.served ≤ count_by (λ b. b) line.standing.items
+  pub waiting_room : length line.standing.items ≤ deque_capacity line.waiting
+  pub served_room : length line.standing.items ≤ deque_capacity line.served
 
 -- the lines that contracts see
 abbrev pub lines_of : ready_queue.Inside → Lines

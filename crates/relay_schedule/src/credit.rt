@@ -1,18 +1,18 @@
-//! What a connection may cost before others have their turns.
+//! The cost that a connection may have before others have their turns.
 ghost use Rattle.std.specs.Prelude.{◌≡◌, ◌≤◌, ◌<◌, ◌+◌, ◌-◌, ◌^◌, max, min, nat_lt};
 ghost use Rattle.std.specs.Prelude.{if◌then◌else◌};
 ghost use Rattle.relay_schedule.specs.Credit.{left, has_credit};
 ghost use Rattle.relay_schedule.specs.declared.credit.TheConstants.{ROUND_CREDIT, ENTRY_DEBT};
 
-/// What a round gives, in microseconds.
+/// The credit that a round gives, in microseconds.
 pub const ROUND_CREDIT: u64 = 20_000;
 
-/// What a new connection owes: eight rounds' credit. So its first texts wait behind those of
-/// connections that are known to cost little.
+/// The credit that a new connection owes: eight rounds' credit. So its first texts wait behind
+/// those of connections that are known to cost little.
 pub const ENTRY_DEBT: u64 = 160_000;
 
-/// What a connection spent of its credit, in microseconds, and the round in which it was last given
-/// some.
+/// The part of its credit that a connection spent, in microseconds, and the round in which it was
+/// last given some.
 ///
 /// ```
 /// let mut credit = Credit { spent: 0, round: 1 };
@@ -84,7 +84,7 @@ impl Credit {
         }
     }
 
-    /// Whether any is left.
+    /// True if any is left.
     ///
     /// ```
     /// assert!(rt; Credit { spent: ROUND_CREDIT - 1, round: 1 }.is_left());
@@ -96,7 +96,7 @@ impl Credit {
         self.spent < ROUND_CREDIT
     }
 
-    /// What is left, which is at most a round's credit.
+    /// The credit that is left, which is at most a round's.
     ///
     /// ```
     /// assert!(rt; Credit { spent: 5_000, round: 1 }.left() == 15_000);

@@ -121,8 +121,8 @@ impl KeyQueue {
         Some(key)
     }
 
-    /// How many keys stand in the queue. As many turns serve each of them once, in their order,
-    /// also if each that was served is queued again at once.
+    /// The number of keys that stand in the queue. As many turns serve each of them once, in their
+    /// order, also if each that was served is queued again at once.
     ///
     /// ```
     /// let mut keys = KeyQueue::new(alloc);
@@ -145,7 +145,7 @@ impl KeyQueue {
         self.keys.is_empty()
     }
 
-    /// Whether a key stands in the queue.
+    /// True if a key stands in the queue.
     ///
     /// ```
     /// let mut keys = KeyQueue::new(alloc);

@@ -1,8 +1,16 @@
-//! What is held of the output of links, of each and of all together.
-ghost use Rattle.std.specs.Prelude.{ℕ, ◌≡◌, ◌≤◌, ◌<◌, ◌+◌, ◌-◌, ◌/◌, ◌^◌, max, min, nat_lt, not};
-ghost use Rattle.relay_schedule.specs.Output.{loaded, moved_by, is_over_due};
+//! The held output of links, of each and of all together.
+//!
+//! A link that holds unsent output has to send it at a pace, which is counted in stretches. The
+//! first one begins when output begins to wait. In each stretch the stream has to take a sixteenth
+//! at least of what was unsent as it began. Once it has, the next one begins; if it has not within
+//! [`PATIENCE`] seconds, the link is over due. Output that is drawn during a stretch does not
+//! lengthen it, and is not due in it.
+ghost use Rattle.std.specs.Prelude.{ℕ, ◌≡◌, ◌≤◌, ◌<◌, ◌+◌, ◌-◌, ◌*◌, ◌/◌, ◌^◌, max, min, nat_lt};
+ghost use Rattle.std.specs.Prelude.{List, false, not};
+ghost use Rattle.relay_schedule.specs.Output.{loaded, began, due_after, is_over_due, sixteenth};
+ghost use Rattle.relay_schedule.specs.Output.{Turn, after_turns, taken_in, AreFrom, IsPaced};
 
-/// For how many seconds a link may take nothing of its output.
+/// The seconds within which a sixteenth of a link's output has to be taken.
 pub const PATIENCE: u64 = 30;
 
 /// The output of a link, in bytes: what was drawn and its stream has not taken, and the most that
@@ -10,22 +18,25 @@ pub const PATIENCE: u64 = 30;
 ///
 /// ```
 /// let mut output = LinkOutput::NONE;
-/// output.note(500, 200, 60);
-/// assert!(rt; output.unsent == 300 && output.held == 500 && output.moved == 60);
+/// output.note(500, 180, 60);
+/// // A sixteenth of the 320 bytes is due until second 90.
+/// assert!(rt; output == LinkOutput { unsent: 320, held: 500, began: 60, due: 20 });
 /// ```
 #[derive(Clone, Copy, Debug, PartialEq, Eq)]
 pub struct LinkOutput {
     pub unsent: u64,
     pub held: u64,
-    /// The second in which the stream last took some, or there was nothing to take.
-    pub moved: u64,
+    /// The second in which the present stretch began.
+    pub began: u64,
+    /// The number of bytes that the stream has still to take in it.
+    pub due: u64,
 }
 
 /// The output of all links together, in bytes, and how much that may be.
 ///
 /// ```
 /// let mut total = OutputTotal::within(1_000);
-/// let held = LinkOutput { unsent: 0, held: 600, moved: 0 };
+/// let held = LinkOutput { held: 600, ..LinkOutput::NONE };
 /// total.change(LinkOutput::NONE, held);
 /// assert!(rt; total.held == 600 && !total.is_full() && !total.is_relieved());
 /// ```
@@ -40,45 +51,63 @@ impl LinkOutput {
     pub const NONE: LinkOutput = LinkOutput {
         unsent: 0,
         held: 0,
-        moved: 0,
+        began: 0,
+        due: 0,
     };
 
-    /// Notes a turn that drew so many bytes, and in which the stream took so many.
+    /// Notes a turn that drew so many bytes, and in which the stream took so many. Once it has
+    /// taken what was due, a new stretch begins in this second with what is unsent now.
     ///
     /// ```
-    /// let mut output = LinkOutput { unsent: 300, held: 300, moved: 60 };
-    /// // Nothing is taken in this turn, and all in the next one.
-    /// output.note(100, 0, 61);
-    /// assert!(rt; output == LinkOutput { unsent: 400, held: 400, moved: 60 });
-    /// output.note(0, 400, 62);
-    /// assert!(rt; output == LinkOutput { unsent: 0, held: 400, moved: 62 });
+    /// let mut output = LinkOutput { unsent: 320, held: 320, began: 60, due: 20 };
+    /// // 19 bytes are less than a sixteenth; one more is enough, and then 25 of 400 are due.
+    /// output.note(100, 19, 70);
+    /// assert!(rt; output == LinkOutput { unsent: 401, held: 420, began: 60, due: 1 });
+    /// output.note(0, 1, 80);
+    /// assert!(rt; output == LinkOutput { unsent: 400, held: 420, began: 80, due: 25 });
     /// ```
     pub fn note(&mut self, drawn: u64, taken: u64, second: u64)
         ensures unsent { self.new.unsent ≡ loaded self.old drawn - taken }
         ensures held { self.new.held ≡ max self.old.held (loaded self.old drawn) }
-        ensures moved { self.new.moved ≡ moved_by self.old drawn taken second }
+        ensures began { self.new.began ≡ began self.old taken second }
+        ensures due { self.new.due ≡ due_after self.old taken self.new.unsent }
         ensures bounded { self.new.unsent ≤ self.new.held }
+        ensures paced { IsPaced self.old → IsPaced self.new }
     {
-        let before = self.unsent;
-        let most = before.saturating_add(drawn);
+        let most = self.unsent.saturating_add(drawn);
         self.unsent = most.saturating_sub(taken);
         self.held = self.held.max(most);
-        if before == 0 || taken > 0 || self.unsent == 0 {
-            self.moved = second;
+        if taken < self.due {
+            self.due -= taken;
+        } else {
+            self.began = second;
+            self.due = self.unsent.div_ceil(16);
         }
     }
 
-    /// Whether nothing was taken of what waits for [`PATIENCE`] seconds, or nothing waits.
+    /// True if the present stretch has lasted [`PATIENCE`] seconds, or nothing waits. So a link
+    /// that takes, within each 30 seconds, a sixteenth of what was unsent before them is never over
+    /// due while output waits (`took_enough`). One that has taken less since a stretch began is
+    /// over due once that was 30 seconds ago (`took_little`).
     ///
     /// ```
-    /// let output = LinkOutput { unsent: 300, held: 300, moved: 60 };
+    /// let mut output = LinkOutput { unsent: 320, held: 320, began: 60, due: 20 };
+    /// output.note(0, 19, 89);
     /// assert!(rt; !output.is_over_due(60 + PATIENCE - 1) && output.is_over_due(60 + PATIENCE));
     /// assert!(rt; LinkOutput::NONE.is_over_due(0));
     /// ```
     pub fn is_over_due(self, second: u64) -> bool
-        ensures { result ≡ is_over_due self second }
+        ensures over_due { result ≡ is_over_due self second }
+        ensures took_enough { (before : LinkOutput) (turns : List Turn) (from : ℕ)
+            → IsPaced before → self ≡ after_turns turns before → AreFrom from turns
+            → before.unsent ≤ 16 * taken_in turns → 0 < self.unsent → second < from + PATIENCE
+            → result ≡ false }
+        ensures took_little { (begin : LinkOutput) (turns : List Turn)
+            → IsPaced begin → begin.due ≡ sixteenth begin.unsent → self ≡ after_turns turns begin
+            → 16 * taken_in turns < begin.unsent
+            → result ≡ not (nat_lt (second - begin.began) PATIENCE) }
     {
-        self.unsent == 0 || second.saturating_sub(self.moved) >= PATIENCE
+        self.unsent == 0 || second.saturating_sub(self.began) >= PATIENCE
     }
 }
 
@@ -95,7 +124,7 @@ impl OutputTotal {
         OutputTotal { held: 0, most }
     }
 
-    /// Whether as much is held as may be.
+    /// True if as much is held as may be.
     ///
     /// ```
     /// assert!(rt; OutputTotal { held: 1_000, most: 1_000 }.is_full());
@@ -107,7 +136,7 @@ impl OutputTotal {
         self.held >= self.most
     }
 
-    /// Whether no more than half of that is held.
+    /// True if no more than half of that is held.
     ///
     /// ```
     /// assert!(rt; OutputTotal { held: 500, most: 1_000 }.is_relieved());
@@ -119,7 +148,7 @@ impl OutputTotal {
         self.held <= self.most / 2
     }
 
-    /// What each of so many links would hold if all held the same.
+    /// The output that each of so many links would hold if all held the same.
     ///
     /// ```
     /// assert!(rt; OutputTotal { held: 600, most: 1_000 }.share(3) == 200);
@@ -134,7 +163,7 @@ impl OutputTotal {
     ///
     /// ```
     /// let mut total = OutputTotal { held: 600, most: 1_000 };
-    /// let old = LinkOutput { unsent: 0, held: 200, moved: 0 };
+    /// let old = LinkOutput { held: 200, ..LinkOutput::NONE };
     /// total.change(old, LinkOutput::NONE);
     /// assert!(rt; total.held == 400);
     /// ```

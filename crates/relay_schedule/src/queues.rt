@@ -16,7 +16,7 @@ use std::alloc::{AllocError, Global};
 /// ```
 #[derive(Clone, Copy, Debug, PartialEq, Eq)]
 pub enum Output {
-    /// What was framed in a read turn, and corked.
+    /// Output that was framed in a read turn, and corked.
     Corked,
     /// That, or messages that wait for the session.
     Waiting,
@@ -29,6 +29,7 @@ pub enum Output {
 /// queues.admit(1).ok()?;
 /// let wants = Wants { read: true, corked: false, waiting: true, closing: false };
 /// queues.push(1, wants, Credit { spent: 0, round: 0 });
+/// queues.ready.begin_credited_pass();
 /// assert!(rt; queues.ready.pop_credited() == Some(1));
 /// assert!(rt; queues.pop_writer(Output::Waiting) == Some(1));
 /// ```
@@ -124,7 +125,8 @@ impl Queues {
     /// let wants = Wants { read: true, corked: false, waiting: false, closing: false };
     /// // A new connection owes.
     /// queues.push(1, wants, Credit::of_new(0));
-    /// assert!(rt; queues.ready.pop_credited() == None && queues.ready.pop_owing() == Some(1));
+    /// queues.ready.begin_owing_pass();
+    /// assert!(rt; queues.ready.credited() == 0 && queues.ready.pop_owing() == Some(1));
     /// ```
     pub fn push(&mut self, key: usize, wants: Wants, credit: Credit)
         ensures { self.new ≡ queued_for key wants credit self.old }
@@ -206,7 +208,7 @@ impl Queues {
         self.held_back.pop()
     }
 
-    /// How many keys were put aside.
+    /// The number of keys that were put aside.
     ///
     /// ```
     /// let mut queues = Queues::new(alloc);
@@ -237,7 +239,7 @@ impl Queues {
         self.closing.pop()
     }
 
-    /// How many keys there are of connections that are closing.
+    /// The number of keys of connections that are closing.
     ///
     /// ```
     /// let mut queues = Queues::new(alloc);
@@ -252,7 +254,7 @@ impl Queues {
         self.closing.len()
     }
 
-    /// How many keys wait for a write turn.
+    /// The number of keys that wait for a write turn.
     ///
     /// ```
     /// let mut queues = Queues::new(alloc);
@@ -270,7 +272,7 @@ impl Queues {
         }
     }
 
-    /// Whether a key waits for a turn that can be given now, so that it is neither held back nor
+    /// True if a key waits for a turn that can be given now, so that it is neither held back nor
     /// closing.
     ///
     /// ```
@@ -287,7 +289,7 @@ impl Queues {
         !self.ready.is_empty() || !self.corked.is_empty() || !self.waiting.is_empty()
     }
 
-    /// Whether a key waits for each turn that its connection wants.
+    /// True if a key waits for each turn that its connection wants.
     ///
     /// ```
     /// let mut queues = Queues::new(alloc);

@@ -1,9 +1,9 @@
-//! How far a room may be read ahead.
+//! The extent to which a room may be read ahead.
 use std::alloc::{AllocError, Global};
 use std::marker::Model;
 
-/// What a room was said since the last time that none of its connections waited to be written to,
-/// and how many wait now.
+/// The texts that a room was said since the last time that none of its connections waited to be
+/// written to, and the number of connections that wait now.
 ///
 /// ```
 /// let room = ReadAhead { texts: 3, bytes: 120, writers: 1 };
@@ -17,7 +17,7 @@ pub struct ReadAhead {
     pub writers: u64,
 }
 
-/// How many texts, and how many bytes of them, may be read of a room before its watchers are
+/// The number of texts, and of bytes in them, that may be read of a room before its watchers are
 /// written to.
 ///
 /// ```
@@ -42,7 +42,7 @@ impl ReadAhead {
         writers: 0,
     };
 
-    /// Whether the room may be read ahead: said more before its watchers are written to.
+    /// True if the room may be read ahead: said more before its watchers are written to.
     ///
     /// ```
     /// let limits = ReadAheadLimits { texts: 2, bytes: 100 };
@@ -103,7 +103,8 @@ impl ReadAhead {
     }
 }
 
-/// What each room was said, by the room's index in the hub. Contracts see it as `ReadAheads`.
+/// The texts that each room was said, by the room's index in the hub. Contracts see it as
+/// `ReadAheads`.
 ///
 /// ```
 /// let mut rooms = ReadAheadByRoom::new(alloc, ReadAheadLimits { texts: 1, bytes: 100 });
@@ -181,7 +182,7 @@ impl ReadAheadByRoom {
         self.rooms.resize(count, ReadAhead::NONE)
     }
 
-    /// Whether a room may be read ahead ([`ReadAhead::may_read_ahead`]).
+    /// True if a room may be read ahead ([`ReadAhead::may_read_ahead`]).
     ///
     /// ```
     /// let mut rooms = ReadAheadByRoom::new(alloc, ReadAheadLimits { texts: 16, bytes: 100 });

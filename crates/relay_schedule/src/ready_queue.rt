@@ -1,28 +1,31 @@
 //! The connections that may be read, in the order of their turns.
 use crate::credit::Credit;
-use crate::key_queue::KeyQueue;
+use crate::turn_line::TurnLine;
 use std::alloc::{AllocError, Global};
 use std::marker::Model;
 
-/// Two queues of keys: `credited`, which is served first, and `owing`. A server's round serves one
-/// key of `owing` at least, and more while it has cost less than its bound. No key is in both. A
-/// round of credit ends once each key that owed when it began was served. Contracts see it as
-/// `Lines`.
+/// Two lines of keys: `credited`, which is served first, and `owing`. A server's round serves one
+/// key of `owing` at least, and more while it has cost less than its bound. No key is in both. Each
+/// line is visited in passes ([`TurnLine`](crate::TurnLine)): who was skipped comes before who was
+/// served. A round of credit ends with the pass in which the last of those who owed when it began
+/// had its turn or was skipped. Contracts see it as `Lines`.
 ///
 /// ```
 /// let mut ready = ReadyQueue::new(alloc);
 /// ready.admit(2).ok()?;
 /// ready.push(1, Credit { spent: ROUND_CREDIT, round: ready.round() });
 /// ready.push(2, Credit { spent: 0, round: ready.round() });
+/// ready.begin_credited_pass();
+/// ready.begin_owing_pass();
 /// // The first one has spent its credit.
 /// assert!(rt; ready.owing() == 1 && ready.credited() == 1);
 /// ```
 #[derive(Drop)]
 pub struct ReadyQueue {
-    credited: KeyQueue,
-    owing: KeyQueue,
+    credited: TurnLine,
+    owing: TurnLine,
     round: u64,
-    /// How many of those who owe have not had their turn in this round.
+    /// The number of those who owe that were not visited in this round.
     left: usize,
 }
 
@@ -41,11 +44,13 @@ impl Model for ReadyQueue {
 }
 
 impl ReadyQueue {
-    ghost use Rattle.std.specs.Prelude.{◌≡◌, ◌++◌, IsOk, OnOk, OnErr, length, option_to_list};
-    ghost use Rattle.relay_schedule.specs.Queue.{first};
+    ghost use Rattle.std.specs.Prelude.{◌≡◌, IsOk, OnOk, OnErr, length, drop, ◌==◌};
+    ghost use Rattle.std.specs.Prelude.{if◌then◌else◌};
+    ghost use Rattle.relay_schedule.specs.TurnLine.{first, order};
     ghost use Rattle.relay_schedule.specs.Ready.{AreLines, BothAdmit, LinesMayAdmit, no_lines};
     ghost use Rattle.relay_schedule.specs.Ready.{are_empty, stands, both_admitting, lined_up};
-    ghost use Rattle.relay_schedule.specs.Ready.{without_credited, in_round, without_owing};
+    ghost use Rattle.relay_schedule.specs.Ready.{skipped_in_line, in_credited_pass, in_owing_pass};
+    ghost use Rattle.relay_schedule.specs.Ready.{in_round, without_credited, without_owing};
     ghost use Rattle.relay_schedule.specs.Ready.{unserved};
 
     /// A queue without keys, which admits none.
@@ -57,8 +62,8 @@ impl ReadyQueue {
         ensures { result ≡ no_lines }
     {
         ReadyQueue {
-            credited: KeyQueue::new(alloc),
-            owing: KeyQueue::new(alloc),
+            credited: TurnLine::new(alloc),
+            owing: TurnLine::new(alloc),
             round: 1,
             left: 0,
         }
@@ -88,7 +93,8 @@ impl ReadyQueue {
     /// let mut ready = ReadyQueue::new(alloc);
     /// let before = ready.round();
     /// // Nobody owes, so the round ends.
-    /// assert!(rt; ready.pop_owing() == None && ready.round() == before + 1);
+    /// ready.begin_owing_pass();
+    /// assert!(rt; ready.round() == before + 1);
     /// ```
     pub fn round(&self) -> u64
         ensures { result ≡ self.now.round }
@@ -96,7 +102,8 @@ impl ReadyQueue {
         self.round
     }
 
-    /// Puts a key behind those in its line, unless it stands in one. Allocates nothing.
+    /// Puts a key behind all others of its line, after its turn or when it becomes ready, unless it
+    /// stands in a line. Allocates nothing.
     ///
     /// ```
     /// let mut ready = ReadyQueue::new(alloc);
@@ -104,7 +111,9 @@ impl ReadyQueue {
     /// // Connection 0 is new and owes; connection 1 has spent nothing.
     /// ready.push(0, Credit::of_new(ready.round()));
     /// ready.push(1, Credit { spent: 0, round: ready.round() });
+    /// ready.begin_credited_pass();
     /// assert!(rt; ready.pop_credited() == Some(1) && ready.pop_credited() == None);
+    /// ready.begin_owing_pass();
     /// assert!(rt; ready.pop_owing() == Some(0));
     /// ```
     pub fn push(&mut self, key: usize, credit: Credit)
@@ -121,12 +130,103 @@ impl ReadyQueue {
         }
     }
 
-    /// Takes the first key out of those with credit. Allocates nothing.
+    /// Puts a key back that was taken out and could not be served: in its line behind those that
+    /// the pass has still to visit, and before all that had a turn. Allocates nothing.
+    ///
+    /// ```
+    /// let mut ready = ReadyQueue::new(alloc);
+    /// ready.admit(1).ok()?;
+    /// ready.push(0, Credit::of_new(ready.round()));
+    /// ready.push(1, Credit::of_new(ready.round()));
+    /// ready.begin_owing_pass();
+    /// // Connection 0 has a turn, and connection 1 is skipped.
+    /// ready.pop_owing()?;
+    /// ready.push(0, Credit::of_new(ready.round()));
+    /// ready.pop_owing()?;
+    /// ready.skip(1, Credit::of_new(ready.round()));
+    /// ready.begin_owing_pass();
+    /// assert!(rt; ready.pop_owing() == Some(1) && ready.pop_owing() == Some(0));
+    /// ```
+    pub fn skip(&mut self, key: usize, credit: Credit)
+        ensures skipped { self.new ≡ skipped_in_line key credit self.old }
+        ensures in_turn { unserved self.new ≡ unserved self.old }
+    {
+        if self.contains(key) {
+            return;
+        }
+        let owes = !credit.is_left();
+        if owes {
+            self.owing.skip(key);
+        } else {
+            self.credited.skip(key);
+        }
+    }
+
+    /// Begins a pass of those with credit: all of them are to be visited, those first that had no
+    /// turn in the last pass. Allocates nothing.
+    ///
+    /// ```
+    /// let mut ready = ReadyQueue::new(alloc);
+    /// ready.admit(0).ok()?;
+    /// ready.push(0, Credit { spent: 0, round: ready.round() });
+    /// // It came since the last pass began.
+    /// assert!(rt; ready.pop_credited() == None);
+    /// ready.begin_credited_pass();
+    /// assert!(rt; ready.pop_credited() == Some(0));
+    /// ```
+    pub fn begin_credited_pass(&mut self)
+        ensures { self.new ≡ in_credited_pass self.old }
+    {
+        self.credited.begin_pass();
+    }
+
+    /// Begins a pass of those who owe: all of them are to be visited, those first that had no turn
+    /// in the last pass. If each that owed when the round of credit began has had a turn or was
+    /// skipped, the next round begins too; so it does if nobody owes. Allocates nothing.
+    ///
+    /// ```
+    /// let mut ready = ReadyQueue::new(alloc);
+    /// ready.admit(1).ok()?;
+    /// ready.push(1, Credit::of_new(ready.round()));
+    /// ready.push(0, Credit::of_new(ready.round()));
+    /// ready.begin_owing_pass();
+    /// let round = ready.round();
+    /// ready.pop_owing()?;
+    /// // The second one was not visited in the round.
+    /// ready.begin_owing_pass();
+    /// assert!(rt; ready.round() == round);
+    /// ready.pop_owing()?;
+    /// ready.begin_owing_pass();
+    /// assert!(rt; ready.round() == round + 1);
+    /// ```
+    pub fn begin_owing_pass(&mut self)
+        ensures pass { self.new ≡ in_owing_pass self.old }
+        ensures in_turn { unserved self.new
+            ≡ (if self.old.left == 0 then order self.old.owing else unserved self.old) }
+    {
+        self.owing.begin_pass();
+        self.begin_round();
+    }
+
+    /// Begins the next round of credit, if each of those who owed was visited in this one.
+    fn begin_round(&mut self)
+        ensures kept { AreLines self.new }
+        ensures round { self.new ≡ in_round self.old }
+    {
+        if self.left == 0 {
+            self.round = self.round.saturating_add(1);
+            self.left = self.owing.waiting();
+        }
+    }
+
+    /// Takes out the first key that the pass of those with credit has still to visit. Allocates
+    /// nothing.
     ///
     /// ```
     /// let mut ready = ReadyQueue::new(alloc);
     /// ready.admit(0).ok()?;
     /// ready.push(0, Credit::of_new(ready.round()));
+    /// ready.begin_credited_pass();
     /// // It owes.
     /// assert!(rt; ready.pop_credited() == None);
     /// ```
@@ -137,67 +237,60 @@ impl ReadyQueue {
         self.credited.pop()
     }
 
-    /// Takes the first key out of those who owe. If each of them has had a turn, the next round of
-    /// credit begins; so it does if there is none. Allocates nothing.
+    /// Takes out the first key that the pass of those who owe has still to visit. Allocates
+    /// nothing.
     ///
     /// ```
     /// let mut ready = ReadyQueue::new(alloc);
     /// ready.admit(1).ok()?;
     /// ready.push(1, Credit::of_new(ready.round()));
     /// ready.push(0, Credit::of_new(ready.round()));
+    /// ready.begin_owing_pass();
     /// assert!(rt; ready.pop_owing() == Some(1) && ready.pop_owing() == Some(0));
     /// assert!(rt; ready.pop_owing() == None);
     /// ```
     pub fn pop_owing(&mut self) -> Option<usize>
         ensures first { result ≡ first self.old.owing }
         ensures rest { self.new ≡ without_owing self.old }
-        ensures in_turn { unserved (in_round self.old)
-            ≡ option_to_list result ++ unserved self.new }
+        ensures in_turn { unserved self.new ≡ drop 1 (unserved self.old) }
     {
-        self.begin_round();
         self.left = self.left.saturating_sub(1);
         self.owing.pop()
     }
 
-    /// Begins the next round of credit, if each of those who owe has had a turn in this one.
-    fn begin_round(&mut self)
-        ensures kept { AreLines self.new }
-        ensures round { self.new ≡ in_round self.old }
-    {
-        if self.left == 0 {
-            self.round = self.round.saturating_add(1);
-            self.left = self.owing.len();
-        }
-    }
-
-    /// How many have credit.
+    /// The number of keys with credit that the pass has still to visit: all of them as it begins.
+    /// As many visits meet each of them once ([`TurnLine::waiting`](crate::TurnLine::waiting)). A
+    /// key that had a turn in the pass, or came since it began, does not count.
     ///
     /// ```
     /// let mut ready = ReadyQueue::new(alloc);
     /// ready.admit(0).ok()?;
     /// ready.push(0, Credit { spent: 0, round: ready.round() });
+    /// ready.begin_credited_pass();
     /// assert!(rt; ready.credited() == 1 && ready.owing() == 0);
     /// ```
     pub fn credited(&self) -> usize
         ensures kept { AreLines self.now }
-        ensures count { result ≡ length self.now.credited.keys }
+        ensures count { result ≡ length self.now.credited.waiting }
     {
-        self.credited.len()
+        self.credited.waiting()
     }
 
-    /// How many owe.
+    /// The number of keys that owe and that the pass has still to visit: all of them as it begins.
+    /// A key that had a turn in the pass, or came since it began, does not count.
     ///
     /// ```
     /// let mut ready = ReadyQueue::new(alloc);
     /// ready.admit(0).ok()?;
     /// ready.push(0, Credit::of_new(ready.round()));
+    /// ready.begin_owing_pass();
     /// assert!(rt; ready.owing() == 1 && ready.credited() == 0);
     /// ```
     pub fn owing(&self) -> usize
         ensures kept { AreLines self.now }
-        ensures count { result ≡ length self.now.owing.keys }
+        ensures count { result ≡ length self.now.owing.waiting }
     {
-        self.owing.len()
+        self.owing.waiting()
     }
 
     pub fn is_empty(&self) -> bool
@@ -206,7 +299,7 @@ impl ReadyQueue {
         self.credited.is_empty() && self.owing.is_empty()
     }
 
-    /// Whether a key stands in one of the lines.
+    /// True if a key stands in one of the lines.
     ///
     /// ```
     /// let mut ready = ReadyQueue::new(alloc);

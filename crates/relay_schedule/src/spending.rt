@@ -1,7 +1,8 @@
 //! A sum with a bound: the microseconds of a round's turns, or the bytes that a pass has drawn.
 ghost use Rattle.std.specs.Prelude.{◌≡◌, ◌≤◌, ◌<◌, ◌+◌, ◌-◌, ◌^◌, min, nat_lt};
 
-/// What was spent, and the bound at which no other turn begins. The unit is the caller's.
+/// The amount that was spent, and the bound at which no other turn begins. The unit is the
+/// caller's.
 ///
 /// ```
 /// let mut spending = Spending::within(5_000);
@@ -28,7 +29,7 @@ impl Spending {
         Spending { spent: 0, bound }
     }
 
-    /// Whether another turn may begin: the turns so far cost less than the bound together.
+    /// True if another turn may begin: the turns so far cost less than the bound together.
     ///
     /// ```
     /// assert!(rt; Spending { spent: 4_999, bound: 5_000 }.allows_more());

@@ -3,8 +3,8 @@ use relay_hub::HubNewFault;
 use std::alloc::AllocError;
 use thiserror::Error;
 
-/// Why a script ended early. The lines before the fault were carried out and their answers written;
-/// after `Output` the last answer may be cut.
+/// The cause for which a script ended early. The lines before the fault were carried out and their
+/// answers written; after `Output` the last answer may be cut.
 ///
 /// ```
 /// let mut input = "ann open board\n".as_bytes();

@@ -84,7 +84,7 @@ impl LineReader {
         self.start += count;
     }
 
-    /// Whether another byte follows. If the buffer is empty, reads more.
+    /// Returns true if another byte follows. If the buffer is empty, reads more.
     pub fn has_more<R: Read>(&mut self, reader: &mut R) -> Result<bool, ScriptFault>
         ensures same { OnOk result (Keeps (prepend_known self.old (R.remaining reader.old))
             (prepend_known self.new (R.remaining reader.new))) }

@@ -16,7 +16,7 @@ pub enum Line<'a> {
     Named { name: &'a str, command: Command<'a> },
 }
 
-/// What the client of a name does.
+/// An act of the client of a name.
 #[derive(Clone, Copy, Debug, PartialEq, Eq)]
 pub enum Command<'a> {
     /// Opens a session in the named room, with this access.
@@ -113,7 +113,7 @@ fn alone<'a>(word: &str) -> Option<Command<'a>>
     }
 }
 
-/// Whether the text is 1 to 16 ASCII letters or digits.
+/// True if the text is 1 to 16 ASCII letters or digits.
 fn is_name(name: &str) -> bool
     ensures { result ≡ is_name name.now }
 {

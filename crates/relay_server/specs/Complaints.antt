@@ -1,5 +1,5 @@
--- What the program says on standard error when it ends early. Where that writer fails too, nothing
--- can say so: then a part of it was said.
+-- The text that the program writes to standard error when it ends early. Where that writer fails
+-- too, nothing can say so: then a part of it was said.
 use Rattle.std.specs.Prelude.{◌≡◌, ℕ, List, codes, Option, Result, Ok, Err}
 use Rattle.std.specs.declared.io.ErrorKind.{ErrorKind}
 use Rattle.std.specs.declared.io.ErrorKind.TheVariants as kind

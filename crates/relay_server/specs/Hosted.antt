@@ -1,4 +1,4 @@
--- What a server that began with an empty log came to.
+-- The outcome of a server that began with an empty log.
 use Rattle.relay_hub.specs.Log.{Log}
 use Rattle.relay_hub.specs.Stands.{StandsFor, EachHoldsPresent, EachIsAtNamed}
 use Rattle.relay_hub.specs.State.{State}

@@ -38,7 +38,7 @@ status_of (Err BadLimit) = is.Misused
 status_of (Err NoMemory) = is.NoMemory
 status_of (Err _) = is.Failed
 
--- How a run ends, by the input before it, what is left of the input, and what was written before
+-- The end of a run, by the input before it, what is left of the input, and what was written before
 -- and after. On success every line was answered and none is left. At `BadLimit` nothing was read or
 -- written. At another fault the first lines were answered.
 abbrev pub Ends : {S : Type 0} → Answering S → S → Result (Unit {0}) ScriptFault → Option (List ℕ)
@@ -79,9 +79,9 @@ HasNoSockets _ = ⊤
 abbrev pub Listens : ℕ → Option (List ℕ) → Option (List ℕ) → Type 0
 Listens port old new = Keeps old new ⊎ Appends old new (listening_text port)
 
--- How a server that made `rounds` rounds ends, by what was written before and after. On success it
--- wrote both of its lines, for some port. At `BadLimit`, or without sockets, it wrote nothing; at
--- `NoMemory`, nothing or the first line; at another fault, a prefix of both lines.
+-- The end of a server that made `rounds` rounds, by what was written before and after. On success
+-- it wrote both of its lines, for some port. At `BadLimit`, or without sockets, it wrote nothing;
+-- at `NoMemory`, nothing or the first line; at another fault, a prefix of both lines.
 abbrev pub ServeEnds : ℕ → Result (Unit {0}) ServeFault → Option (List ℕ) → Option (List ℕ) → Type 0
 ServeEnds rounds (Ok u) old new = (port : ℕ) × Appends old new (served_text port rounds)
 ServeEnds rounds (Err (serve.Ended BadLimit)) old new = new ≡ old
@@ -109,7 +109,7 @@ EndsBy ends settings status =
     (ended : Result (Unit {0}) ServeFault) × (status ≡ sockets_status ended)
     × (IsErrOf ended (serve.Ended BadLimit) ↔ BadLimits (config_of settings)) × ends ended
 
--- How a job ends. A server reads nothing.
+-- The end of a job. A server reads nothing.
 abbrev pub JobEnds : Job → Status → Option (List ℕ) → Option (List ℕ) → Option (List ℕ)
     → Option (List ℕ) → Type 0
 JobEnds (job.Script settings) status input left old new =
@@ -135,8 +135,8 @@ StopEnds (stop.Help text) status old new = Shows (string_bytes text) status old 
 StopEnds (stop.Misuse text) status old new = (status ≡ is.Misused) × (new ≡ old)
 StopEnds stop.NoMemory status old new = (status ≡ is.NoMemory) × (new ≡ old)
 
--- How the program ends: with the job that the words ask for, at some time, whose numbers are all in
--- range, if nothing is wrong with the words; or without a job, for a reason that they give, and
+-- The end of the program: with the job that the words ask for, at some time, whose numbers are all
+-- in range, if nothing is wrong with the words; or without a job, for a reason that they give, and
 -- nothing was read.
 abbrev pub WordsEnd : List (List ℕ) → Status → Option (List ℕ) → Option (List ℕ) → Option (List ℕ)
     → Option (List ℕ) → Type 0

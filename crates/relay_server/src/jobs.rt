@@ -14,12 +14,12 @@ ghost use Rattle.relay_loopback.specs.declared.fault.ServeFault.TheVariants.{End
 use crate::config::config_of;
 use crate::serve::{ServeOptions, serve};
 use crate::status::{Status, complaint, report, say};
-use relay_loopback::{Loopback, ServeFault};
+use relay_loopback::{Loopback, ServeFault, loopback_at};
 use relay_options::{Job, Settings, Stop, job_of};
 use relay_script::{Script, ScriptFault, run_follow, run_lines, run_script, write_whole};
 use std::alloc::{AllocGlobal, Global};
 use std::io::{self, ErrorKind, Read, Write};
-use std::net::Net;
+use std::net::{Net, SocketAddr};
 use std::time::Clock;
 
 /// Runs the job that the arguments `words` ask for, over a reader and a writer, and reports faults
@@ -74,7 +74,7 @@ pub fn refuse_words<E: Write>(why: ErrorKind, errors: &mut E) -> u8
     unread_status(why).code()
 }
 
-/// Why the arguments could not be read, for standard error.
+/// The cause for which the arguments could not be read, for standard error.
 fn unread_complaint(why: ErrorKind) -> &'static str
     ensures { result.now ≡ unread_complaint why }
 {
@@ -193,7 +193,7 @@ fn report_sockets<E: Write>(ended: Result<(), ServeFault>, errors: &mut E) -> St
     match ended {
         Ok(()) => Status::Done,
         Err(ServeFault::Listen { address, code }) => {
-            let _ = writeln!(errors, "relay: cannot listen on {address}");
+            say_address(address, errors);
             say_code(code, errors);
             Status::Failed
         }
@@ -203,6 +203,16 @@ fn report_sockets<E: Write>(ended: Result<(), ServeFault>, errors: &mut E) -> St
         }
         Err(ServeFault::Ended(fault)) => report(Err(fault), errors),
     }
+}
+
+/// Says where the program cannot listen: at a port, or at an address that is not the default one.
+fn say_address<E: Write>(address: SocketAddr, errors: &mut E) {
+    let port = address.port();
+    let _ = if address == loopback_at(port) {
+        writeln!(errors, "relay: cannot listen on port {port}")
+    } else {
+        writeln!(errors, "relay: cannot listen on {address}")
+    };
 }
 
 /// Says what the number of a system's error means, if there is one.

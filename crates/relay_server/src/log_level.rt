@@ -4,7 +4,7 @@ use relay_link::EndCause;
 use std::fmt;
 use std::fmt::{Display, Formatter};
 
-/// How much an operator cares for a line.
+/// The importance of a line to an operator.
 #[derive(Clone, Copy, Debug, PartialEq, Eq)]
 pub(crate) enum LogLevel {
     /// The relay does what it is there for.

@@ -21,9 +21,9 @@ pub struct LogLines<'a, W, C> {
     writer: &'a mut W,
     clock: &'a C,
     line: String,
-    /// How many lines were dropped since the last line that went out.
+    /// The number of lines that were dropped since the last line that went out.
     dropped: u64,
-    /// Whether the last bytes that went out are no whole line.
+    /// True if the last bytes that went out are no whole line.
     is_cut: bool,
 }
 

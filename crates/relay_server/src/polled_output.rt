@@ -49,7 +49,8 @@ impl<W: Write> Write for PolledOutput<W> {
     }
 }
 
-/// Whether a descriptor takes bytes without waiting, as the system says when it is asked.
+/// The readiness of a descriptor to take bytes without waiting, as the system says when it is
+/// asked.
 #[derive(Drop)]
 struct OutputReadiness {
     descriptor: i32,
@@ -72,8 +73,8 @@ impl OutputReadiness {
         })
     }
 
-    /// Whether a write would not wait. An event comes only at a change, so the descriptor is
-    /// registered again before it is asked.
+    /// Returns true if a write would not wait. An event comes only at a change, so the descriptor
+    /// is registered again before it is asked.
     fn is_writable(&mut self) -> bool {
         let mut source = SourceFd(&self.descriptor);
         let again = self

@@ -33,11 +33,11 @@ use std::io::{Read, Write};
 use std::net::{IpAddr, Net, OpenListener, OpenStream, SocketAddr};
 use std::time::Clock;
 
-/// How many bytes a MiB has.
+/// The number of bytes in a MiB.
 const MIB: u64 = 1_048_576;
 
-/// Where a server listens, how long it runs, whether it logs, forgets rooms and begins closed, and
-/// how much output it holds.
+/// The place at which a server listens, the time for which it runs, whether it logs, forgets rooms
+/// and begins closed, and how much output it holds.
 #[derive(Clone, Copy, Debug, PartialEq, Eq)]
 pub struct ServeOptions {
     /// The address on which it listens for clients.
@@ -48,14 +48,14 @@ pub struct ServeOptions {
     pub admin: Option<u16>,
     /// The number of rounds, which a stop at the operator's port may cut short.
     pub rounds: u64,
-    /// Whether it logs its connections.
+    /// True if it logs its connections.
     pub log: bool,
-    /// Whether the room that has been empty for the longest time is forgotten once all places are
+    /// True if the room that has been empty for the longest time is forgotten once all places are
     /// taken.
     pub forget_rooms: bool,
-    /// Whether clients may enter only once an operator opens the relay. Without `admin` none can.
+    /// True if clients may enter only once an operator opens the relay. Without `admin` none can.
     pub closed: bool,
-    /// How much output its links hold together, in MiB.
+    /// The amount of output that its links hold together, in MiB.
     pub output_mib: u64,
 }
 

@@ -84,7 +84,7 @@ fn fault_status(fault: ScriptFault) -> Status
     }
 }
 
-/// What is said of a fault on standard error.
+/// The text about a fault for standard error.
 pub(crate) fn complaint(fault: ScriptFault) -> &'static str
     ensures { result.now ≡ complaint fault }
 {

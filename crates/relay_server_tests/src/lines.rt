@@ -66,7 +66,7 @@ fn limits(alloc: Global) -> Option<String> {
     .ok()
 }
 
-/// How many connections there may be beside so many sessions.
+/// The number of connections that there may be beside so many sessions.
 fn connections(alloc: Global, sessions: &str) -> Option<String> {
     let limit = connection_limit(number(sessions)?);
     format!(in alloc; "{limit}").ok()
@@ -99,7 +99,7 @@ fn script_of(alloc: Global, text: &str, lines: u64, len: u64) -> Option<String> 
     Some(script)
 }
 
-/// How many answers say that a name is unknown, and what comes after them.
+/// The number of answers that say that a name is unknown, and what comes after them.
 fn counted(alloc: Global, written: &str) -> Option<String> {
     let unknown = written.matches("x unknown\n").count();
     let end = written.trim_start_matches("x unknown\n");

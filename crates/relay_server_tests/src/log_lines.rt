@@ -116,7 +116,8 @@ impl Write for PlannedWriter<'_> {
     }
 }
 
-/// What is written of an entry that comes so many times, if the writes take what is planned.
+/// The text that is written of an entry that comes so many times, if the writes take what is
+/// planned.
 fn written(
     alloc: Global,
     millis: u64,

@@ -13,13 +13,13 @@ use std::time::{Clock, Duration};
 /// A job, and what its network lacks.
 const ROWS: &str = r#"
 # A server says what its network lacks. It prints nothing before it listens and its poll is set up.
-serve Port => relay: cannot listen on 127.0.0.1:7\nstatus 1
-serve NonBlocking => relay: cannot listen on 127.0.0.1:7\nstatus 1
-serve Address => relay: cannot listen on 127.0.0.1:7\nstatus 1
+serve Port => relay: cannot listen on port 7\nstatus 1
+serve NonBlocking => relay: cannot listen on port 7\nstatus 1
+serve Address => relay: cannot listen on port 7\nstatus 1
 serve Descriptor => relay: cannot wait for sockets\nstatus 1
 
 # It binds the address that it is given, and no other, and warns of one that others may reach.
-serve Loopback => relay: cannot listen on 127.0.0.1:7\nstatus 1
+serve Loopback => relay: cannot listen on port 7\nstatus 1
 serve-at 127.0.0.2 Loopback => relay: cannot wait for sockets\nstatus 1
 serve-at ::1 Port => relay: cannot listen on [::1]:7\nstatus 1
 serve-at 0.0.0.0 Port => relay: --listen 0.0.0.0: every machine that reaches this address can enter\nrelay: cannot listen on 0.0.0.0:7\nstatus 1
@@ -27,9 +27,9 @@ serve-at :: Descriptor => relay: --listen ::: every machine that reaches this ad
 
 # The loop says so too. It polls nothing, so an invalid descriptor does not stop it. Its line is answered `stuck`, since its client cannot
 # connect.
-loop Port => relay: cannot listen on 127.0.0.1:0\nstatus 1
-loop NonBlocking => relay: cannot listen on 127.0.0.1:0\nstatus 1
-loop Address => relay: cannot listen on 127.0.0.1:0\nstatus 1
+loop Port => relay: cannot listen on port 0\nstatus 1
+loop NonBlocking => relay: cannot listen on port 0\nstatus 1
+loop Address => relay: cannot listen on port 0\nstatus 1
 loop Descriptor => a stuck\nstatus 0
 "#;
 

@@ -149,7 +149,7 @@ pub fn words_of(alloc: Global, line: &str) -> Option<Vec<String>> {
     Some(words)
 }
 
-/// What a command line comes to at that time: a job, a text that is to be printed, or misuse, of
+/// The outcome of a command line at that time: a job, a text that is to be printed, or misuse, of
 /// which there has to be a message.
 fn outcome(alloc: Global, line: &str, now: Option<u64>) -> Option<String> {
     match job_of(alloc, words_of(alloc, line)?.as_slice(), now) {
@@ -173,7 +173,7 @@ fn shown(alloc: Global, value: &impl Debug) -> Option<String> {
     format!(in alloc; "{value:?}").ok()
 }
 
-/// Whether what a command line comes to, which stands before a colon, has the part behind it.
+/// Says whether the outcome of a command line, which stands before a colon, has the part behind it.
 fn found_in_help(alloc: Global, line_and_part: &str) -> Option<String> {
     let (line, part) = line_and_part.split_once(": ")?;
     let is_found = outcome(alloc, line, Some(NOW))?.contains(part);

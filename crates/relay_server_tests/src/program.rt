@@ -93,7 +93,7 @@ fn complained(alloc: Global, word: &str, why: &str) -> Option<String> {
     with_status(alloc, errors.as_slice(), status)
 }
 
-/// What a follower answers to lines.
+/// The answers of a follower to lines.
 fn followed(alloc: Global, lines: &str) -> Option<String> {
     let lines = typed(alloc, lines)?;
     let mut input = lines.as_bytes();
@@ -116,7 +116,7 @@ pub fn run(
     with_status(rt.alloc(), output.as_slice(), status)
 }
 
-/// Whether the program wrote to standard error, its output, and its status.
+/// Tells whether the program wrote to standard error, its output, and its status.
 fn done(rt: &(impl AllocGlobal + Clock + Net), act: &str) -> Option<String> {
     let (line, input) = act.split_once(" < ").unwrap_or((act, ""));
     let input = typed(rt.alloc(), input)?;
@@ -125,7 +125,7 @@ fn done(rt: &(impl AllocGlobal + Clock + Net), act: &str) -> Option<String> {
     with_complaint(rt.alloc(), errors.as_slice(), told.as_str())
 }
 
-/// Whether the program's help has a part, whether it wrote to standard error, and its status.
+/// Tells whether the program's help has a part, whether it wrote to standard error, and its status.
 fn found_in_help(rt: &(impl AllocGlobal + Clock + Net), part: &str) -> Option<String> {
     let mut errors = Vec::new(rt.alloc());
     let told = run(rt, "relay --help", "", &mut errors)?;

@@ -12,7 +12,7 @@ relay serve --port 0 --turns 1 => listening, turns 1\nstatus 0
 relay serve --port 0 --turns 1 --epoch 2 => listening, turns 1\nstatus 0
 
 # A server whose port is in use says what it could not do, and the system's reason.
-taken => status 1, relay: cannot listen on 127.0.0.1:PORT\nrelay: REASON\n
+taken => status 1, relay: cannot listen on port PORT\nrelay: REASON\n
 "#;
 
 #[test]
@@ -36,7 +36,7 @@ impl<R: AllocGlobal + Clock + Net> Subject<R> for Sockets {
     }
 }
 
-/// What a server wrote, without the port that the system chose.
+/// The text that a server wrote, without the port that the system chose.
 fn served(rt: &(impl AllocGlobal + Clock + Net), line: &str) -> Option<String> {
     let mut errors = Vec::new(rt.alloc());
     let told = run(rt, line, "", &mut errors)?;
@@ -47,7 +47,7 @@ fn served(rt: &(impl AllocGlobal + Clock + Net), line: &str) -> Option<String> {
     with_complaint(rt.alloc(), errors.as_slice(), told.as_str())
 }
 
-/// What a server says at a port that is in use.
+/// The text that a server writes at a port that is in use.
 fn refused_port(rt: &(impl AllocGlobal + Clock + Net)) -> Option<String> {
     let taken = rt.bind(SocketAddr::from((Ipv4Addr::LOCALHOST, 0)));
     let taken = taken.ok()?;

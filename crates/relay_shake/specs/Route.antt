@@ -37,7 +37,7 @@ before suffix text =
 abbrev pub with_access : Access → Option (List ℕ) → Option (List ℕ × Access)
 with_access access room = option_map (λ name. (name, access)) room
 
--- What a target asks for: to read and write the room of `/rooms/NAME`, or only to read that of
+-- The request of a target: to read and write the room of `/rooms/NAME`, or only to read that of
 -- `/rooms/NAME/watch`.
 abbrev pub asked_of : List ℕ → Option (List ℕ × Access)
 asked_of target =

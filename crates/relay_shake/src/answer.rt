@@ -19,7 +19,7 @@ pub enum Shake {
     Accept {
         /// The name of the room in the target.
         room: String,
-        /// What the session may do there, by the target.
+        /// The access of the session there, by the target.
         access: Access,
         /// The 101 reply, to be sent whole.
         reply: Vec<u8>,

@@ -13,7 +13,7 @@ use std::alloc::Global;
 /// The most header fields of a head.
 pub(crate) const MAX_FIELDS: usize = 32;
 
-/// What an accepted head asks for, and its key.
+/// The request of an accepted head, and its key.
 #[derive(Drop)]
 pub(crate) struct Accepted<'b> {
     pub room: &'b str,

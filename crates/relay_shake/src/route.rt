@@ -1,4 +1,4 @@
-//! What a target asks for: a room, and what a session may do in it.
+//! The request of a target: a room, and what a session may do in it.
 ghost use Rattle.std.specs.Prelude.{◌≡◌, IfOk, codes, option_copied, option_map};
 ghost use Rattle.matchit.specs.declared.error.InsertError.TheVariants as InsertError;
 ghost use Rattle.relay_shake.specs.Route.{asked_of, asked_by, before, routed, room_of};
@@ -10,7 +10,7 @@ use std::alloc::{AllocError, Global};
 /// The suffix of the targets whose sessions may only watch.
 const WATCH: &str = "/watch";
 
-/// What a target asks for.
+/// The request of a target.
 #[derive(Drop)]
 pub(crate) struct Asked<'b> {
     pub room: &'b str,

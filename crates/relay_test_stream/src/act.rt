@@ -1,4 +1,4 @@
-//! What a client and its stream do, in words.
+//! The acts of a client and its stream, in words.
 use crate::injected_fault::InjectedFault;
 use crate::row::cut;
 use crate::wire::Wire;

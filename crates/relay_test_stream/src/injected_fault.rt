@@ -1,6 +1,6 @@
 //! The faults that a test can inject into a stream.
 
-/// What a stream does at a call in place of the request.
+/// The act of a stream at a call, in place of the request.
 #[derive(Clone, Copy, Debug, PartialEq, Eq)]
 pub enum InjectedFault {
     /// The call fails, with `ErrorKind::ConnectionReset`.

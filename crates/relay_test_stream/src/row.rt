@@ -3,11 +3,11 @@
 /// A line of a test: what is done, how often, and what has to come of it each time.
 #[derive(Clone, Copy, Debug)]
 pub struct Row<'a> {
-    /// How often the act is done.
+    /// The number of times that the act is done.
     pub times: u64,
-    /// What is done, in words.
+    /// The act, in words.
     pub act: &'a str,
-    /// What has to come of it.
+    /// The outcome that it has to have.
     pub wanted: &'a str,
 }
 

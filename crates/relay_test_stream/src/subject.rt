@@ -1,9 +1,9 @@
-//! What plays rows.
+//! Subjects that play rows.
 use crate::row::Row;
 use crate::wrong_rows::{WrongRow, WrongRows};
 use std::alloc::AllocGlobal;
 
-/// What the acts of rows are done to. `R` is the runtime that they need.
+/// The subject of the acts of rows. `R` is the runtime that they need.
 pub trait Subject<R> {
     /// Does an act, and tells what came of it. Of an act that is unknown, and where memory is
     /// missing, nothing is told, which fails the row.

@@ -14,7 +14,7 @@ pub struct Wire {
     at: usize,
     /// The bytes that were written. A test may clear it.
     pub output: Vec<u8>,
-    /// Whether the input ends after the bytes that were fed. Otherwise a read there returns
+    /// True if the input ends after the bytes that were fed. Otherwise a read there returns
     /// `WouldBlock`.
     pub ended: bool,
     /// The fault of every read. `None` means no fault.
@@ -80,7 +80,7 @@ impl Wire {
         self.feed(text.as_bytes())
     }
 
-    /// Whether all the input was read.
+    /// True if all the input was read.
     pub fn is_read(&self) -> bool {
         self.at >= self.input.len()
     }

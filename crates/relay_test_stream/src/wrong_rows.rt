@@ -10,14 +10,14 @@ pub struct WrongRow<'a> {
     /// The last line before it that says what rows show.
     pub heading: &'a str,
     pub row: Row<'a>,
-    /// What came of it, if that was told.
+    /// The outcome of it, if that was told.
     pub came: Option<String>,
 }
 
 /// The wrong rows of a text, in order.
 #[derive(Debug, Drop)]
 pub struct WrongRows<'a> {
-    /// How many there are.
+    /// The number of wrong rows.
     pub count: u64,
     /// Those of them for which there was memory.
     pub rows: Vec<WrongRow<'a>>,

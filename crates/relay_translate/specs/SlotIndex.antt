@@ -1,4 +1,4 @@
--- Which sessions watch each pointer, and which pointers lie near a change.
+-- The sessions that watch each pointer, and the pointers that lie near a change.
 use Rattle.std.specs.Prelude.{◌≡◌, ℕ, nat_eq, zero, suc, ◌==◌, ◌≤◌, List, [], ◌∷◌, length, take}
 use Rattle.std.specs.Prelude.{String, Bool, true, false, not, ◌&&◌, ◌||◌, ◌⊎◌, Option}
 use Rattle.std.specs.List.{All, list_any}

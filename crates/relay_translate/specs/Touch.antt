@@ -48,8 +48,8 @@ touch_either Inside Inside = Inside
 touch_either Inside Reset = Reset
 touch_either Reset b = Reset
 
--- How a change touches the value at the pointer q: a move is judged as a removal and an insertion,
--- a copy at its target.
+-- The touch of a change on the value at the pointer q: a move is judged as a removal and an
+-- insertion, a copy at its target.
 abbrev pub touch_value : Change → Path → Touch
 touch_value (change.Set path v) q = touch_path false path q
 touch_value (change.AddMember path v) q = touch_path false path q
@@ -59,7 +59,7 @@ touch_value (change.DropItem path) q = touch_path true path q
 touch_value (change.Move from to v) q = touch_either (touch_place from q) (touch_place to q)
 touch_value (change.Copy from to v) q = touch_place to q
 
--- How a change touches the size of that value.
+-- The touch of a change on the size of that value.
 
 -- a place within the value: Reset if one of the value's own parts is added or removed there, Apart
 -- below its parts
@@ -91,7 +91,7 @@ touch_size (change.Move from to v) q =
     touch_either (touch_place_size from q) (touch_place_size to q)
 touch_size (change.Copy from to v) q = touch_place_size to q
 
--- How a change touches what a slot with this pointer and kind shows.
+-- The touch of a change on the contents of a slot with this pointer and kind.
 abbrev pub touch : Change → Path → SlotKind → Touch
 touch c q Value = touch_value c q
 touch c q Size = touch_size c q

@@ -2,7 +2,7 @@
 ghost use Rattle.std.specs.Prelude.{◌≡◌};
 ghost use Rattle.relay_translate.specs.Translate.{is_reset};
 
-/// How a change touches what a slot shows.
+/// The touch of a change on the contents of a slot.
 ///
 /// ```
 /// // An element was inserted before the one that a slot shows.

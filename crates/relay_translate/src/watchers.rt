@@ -54,7 +54,7 @@ impl Watchers {
         };
     }
 
-    /// Whether no session watches.
+    /// Returns true if no session watches.
     pub fn is_empty(&self) -> bool
         ensures { MatchBool result ((k : SlotKind) (s : ℕ) → watches_by k s self.now ≡ false)
             (IsWatched self.now) }

@@ -16,7 +16,7 @@ pub map_twice : {A B C : Type 0} (f : A → B) (g : B → C) (o : Option A)
 map_twice f g None = refl
 map_twice f g (Some x) = refl
 
--- What a conversion says of what was parsed.
+-- Results of a conversion, in terms of the parsed value.
 
 module _ {A B : Type 0} (f : A → Option B) where
   given : (p : A × List Token) (o : Option B) (b : B) (r : List Token) → f p.0 ≡ o

@@ -18,7 +18,7 @@ use Rattle.std_collections.proofs.Entries.{keys_set_value_at}
 use Rattle.std_collections.proofs.Seek.{AboveFirst, AnswersAt}
 use Rattle.relay_tree.specs.Entries.{compared, order_to, IsAscending}
 
--- Where a query is above all before a place, and answers there, the place is what `seek` finds.
+-- `seek` finds the place if the query is above all before it and answers there.
 
 module _ {K X : Type 0} (compare : K → Ordering) where
   stepped : (e : K × X) (es : List (K × X)) (r : Ordering) → compare e.0 ≡ r
@@ -40,7 +40,7 @@ module _ {K X : Type 0} (compare : K → Ordering) where
   sought_between (e ∷ es) (suc i) l a b =
       stepped e es Greater a.0 ∙ ap one_further (sought_between es i (omega arith) a.1 b)
 
--- What the search asks of each entry, and what the name is compared to it.
+-- The question that the search asks of each entry, and the comparison of the name to it.
 
 module _ {V : Type 0} (name : List ℕ) where
   turned : (e : String Global × V) (o : Ordering) → order_to name e ≡ o
@@ -126,7 +126,7 @@ below name x y le less = go (compared name x) refl le
     go Equal is h = nat_list_cmp_total.congr name (string_bytes x) (string_bytes y) is ∙ less
     go Greater is h = absurd cc
 
--- What stands there after a change.
+-- The value there after a change.
 
 module _ {V : Type 0} where
   pub set_there : (es : List (String Global × V)) (i : ℕ) (e : String Global × V) (w : V)

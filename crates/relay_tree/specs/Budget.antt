@@ -1,4 +1,4 @@
--- What a budget has left after a cost is paid from it.
+-- The remainder of a budget after a cost is paid from it.
 use Rattle.std.specs.Prelude.{ℕ, ◌-◌, Option, Some, None, nat_le, if◌then◌else◌}
 pub use Rattle.relay_tree.specs.declared.budget.Budget.{Budget}
 pub use Rattle.relay_tree.specs.declared.budget.Budget.TheVariants.{Unbounded, Left}

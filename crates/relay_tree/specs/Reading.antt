@@ -1,5 +1,5 @@
--- What has been read of a text beside what `serde_json` reads there. A value in which a number is
--- not whole is read on, and is `None`.
+-- The value read so far of a text, beside the one that `serde_json` reads there. A value in which a
+-- number is not whole is read on, and is `None`.
 use Rattle.std.specs.Prelude.{◌≡◌, ℤ, ℕ, List, [], ◌∷◌, ◌++◌, map, Option, Some, option_map}
 use Rattle.std.specs.Prelude.{option_and_then, String, string_bytes, ⊤}
 use Rattle.std.specs.declared.alloc.Global.{Global}

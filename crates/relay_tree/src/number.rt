@@ -50,7 +50,7 @@ fn negative(numeral: &Numeral<'_>) -> Option<Option<i64>>
     fraction(true, numeral)
 }
 
-/// What a number is that is no whole one: nothing that a tree has, unless it is too large.
+/// The result for a number that is no integer: nothing that a tree has, unless it is too large.
 fn fraction(negative: bool, numeral: &Numeral<'_>) -> Option<Option<i64>>
     ensures { result ≡ option_map as_i64 (float_of negative numeral.now) }
 {

@@ -26,7 +26,7 @@ use json::{Invalid, Reader, Scratch, Token};
 use std::alloc::{AllocError, Global};
 use thiserror::Error;
 
-/// Why a text does not read as a tree, in the order of the checks.
+/// The faults of a text that does not read as a tree, in the order of the checks.
 ///
 /// ```
 /// assert!(rt; matches!(read(alloc, "1e3"), Err(TreeFault::Number)));

@@ -1,4 +1,4 @@
--- What a slot shows of a value is no deeper than the value.
+-- A slot's contents are no deeper than the value that it shows.
 use Rattle.std.proofs.Common.{◌≡◌, ◌≤◌, ℕ, Option, Some, None, option_map, ap, arith}
 use Rattle.relay_tree.specs.Document.{Document, null, depth}
 use Rattle.relay_view.specs.View.{size, counted, shown}

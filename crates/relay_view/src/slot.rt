@@ -16,7 +16,7 @@ use std::alloc::{AllocError, Global};
 /// The weight of the list around a slot's value.
 const LIST_WEIGHT: u64 = 8;
 
-/// What a slot shows.
+/// The contents that a slot shows: a value, or its size.
 ///
 /// ```
 /// let view = View::read(alloc, &read(alloc, r#"["", {"size": ""}]"#).ok()?).ok()?;

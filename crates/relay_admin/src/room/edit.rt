@@ -33,12 +33,12 @@ pub const MAX_BODY: u64 = 1_048_576;
 pub struct EditRequest {
     /// The name of the room, which may be anything.
     pub room: String,
-    /// What `If-Match` lists: the edit may be made only at a revision at which it holds
+    /// The list in `If-Match`: the edit may be made only at a revision at which it holds
     /// ([`EntityTags::matches`]); otherwise the response is [`crate::Response::OtherRevision`].
     pub if_match: EntityTags,
-    /// How many bytes the head has: the body begins behind them.
+    /// The number of bytes in the head: the body begins behind them.
     pub head: usize,
-    /// How many bytes the body has, at most [`MAX_BODY`].
+    /// The number of bytes in the body, at most [`MAX_BODY`].
     pub length: u64,
 }
 

@@ -11,8 +11,8 @@ use relay_http_head::has_element;
 use std::alloc::{AllocError, Global};
 use std::marker::Model;
 
-/// What the fields `If-Match` or `If-None-Match` of a request list. Contracts see the values, each
-/// with a comma behind it, since several fields are one list (RFC 9110, section 5.3).
+/// The list in the fields `If-Match` or `If-None-Match` of a request. Contracts see the values,
+/// each with a comma behind it, since several fields are one list (RFC 9110, section 5.3).
 ///
 /// ```
 /// let head = "GET /rooms/board HTTP/1.1\r\nHost: localhost\r\nIf-None-Match: W/\"5-7\"\r\n\r\n";
@@ -53,7 +53,7 @@ impl EntityTags {
         Ok(EntityTags { list })
     }
 
-    /// Whether `If-Match` asks for no revision: there is no such field, or it is `*`.
+    /// True if `If-Match` asks for no revision: there is no such field, or it is `*`.
     ///
     /// ```
     /// let head = "GET /rooms/board HTTP/1.1\r\nHost: localhost\r\n\r\n";
@@ -68,9 +68,9 @@ impl EntityTags {
         matches!(self.list.as_slice(), [] | [b'*', b','])
     }
 
-    /// Whether `If-Match` holds at the revision with this tag: it asks for none, or lists this tag
-    /// alone (RFC 9110, section 13.1.1). A weak tag never holds, nor does a list of several. If
-    /// memory runs out, it returns `AllocError`.
+    /// Returns true if `If-Match` holds at the revision with this tag: it asks for none, or lists
+    /// this tag alone (RFC 9110, section 13.1.1). A weak tag never holds, nor does a list of
+    /// several. If memory runs out, it returns `AllocError`.
     ///
     /// ```
     /// let head = "PATCH /rooms/board HTTP/1.1\r\nHost: localhost\r\nIf-Match: \"5-7\"\r\n";
@@ -89,9 +89,9 @@ impl EntityTags {
         Ok(self.is_any() || self.list.as_slice() == wanted.as_bytes())
     }
 
-    /// Whether `If-None-Match` names the revision with this tag: it lists `*`, or the tag, strong
-    /// or weak (RFC 9110, section 13.1.2), in which `w/` counts as `W/`. If memory runs out, it
-    /// returns `AllocError`.
+    /// Returns true if `If-None-Match` names the revision with this tag: it lists `*`, or the tag,
+    /// strong or weak (RFC 9110, section 13.1.2), in which `w/` counts as `W/`. If memory runs out,
+    /// it returns `AllocError`.
     ///
     /// ```
     /// let head = "GET /rooms/board HTTP/1.1\r\nHost: localhost\r\nIf-None-Match: *\r\n\r\n";

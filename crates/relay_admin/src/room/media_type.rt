@@ -5,7 +5,7 @@ ghost use Rattle.relay_admin.specs.Edits.{is_json_patch, is_parameters};
 /// The media type of a JSON Patch (RFC 6902, section 6).
 const JSON_PATCH: &str = "application/json-patch+json";
 
-/// Whether a value of `Content-Type` is that of a JSON Patch, in any case, alone or with
+/// True if a value of `Content-Type` is that of a JSON Patch, in any case, alone or with
 /// parameters.
 pub(crate) fn is_json_patch(value: &[u8]) -> bool
     ensures { result ≡ is_json_patch value.now }
@@ -18,7 +18,7 @@ pub(crate) fn is_json_patch(value: &[u8]) -> bool
     }
 }
 
-/// Whether what stands behind a media type is nothing, or parameters behind a `;`.
+/// True if nothing stands behind a media type, or parameters behind a `;`.
 fn is_parameters(bytes: &[u8]) -> bool
     ensures { result ≡ is_parameters bytes.now }
 {

@@ -27,8 +27,8 @@ pub struct PartRequest {
     pub room: String,
     /// The pointer (RFC 6901), which may be any text; the empty one leads to the whole document.
     pub at: String,
-    /// What `If-None-Match` lists: [`crate::Response::NotModified`] is the response if it names the
-    /// room's tag.
+    /// The list in `If-None-Match`: [`crate::Response::NotModified`] is the response if it names
+    /// the room's tag.
     pub if_none_match: EntityTags,
 }
 

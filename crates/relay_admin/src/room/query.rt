@@ -65,7 +65,7 @@ fn decoded(alloc: Global, text: &str) -> Result<Vec<u8>, AllocError>
     Ok(bytes)
 }
 
-/// Whether each `%` is followed by two hexadecimal digits.
+/// True if each `%` is followed by two hexadecimal digits.
 fn has_whole_escapes(text: &[u8]) -> bool
     ensures { result ≡ has_whole_escapes text.now }
 {

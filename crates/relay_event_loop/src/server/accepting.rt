@@ -1,4 +1,4 @@
-//! How connections come: who is accepted, and who makes room.
+//! The arrival of connections: who is accepted, and who makes room.
 ghost use Rattle.std.specs.Prelude.{IfSome};
 ghost use Rattle.relay_event_loop.specs.Advances.{KeepsFewer, KeepsWithin, HasNoSession, links_of};
 

@@ -19,7 +19,7 @@ use std::time::{Clock, Duration};
 /// For how many seconds a server that stops tells its clients what waits for them.
 const DRAIN_SECONDS: u64 = 5;
 
-/// How many passes are enough for that, however short they are.
+/// The number of passes that are enough for that, however short they are.
 const MAX_DRAIN_PASSES: u64 = 1_000_000;
 
 impl<S, R, C> Server<S, AdminReadiness<'_, R, C>>
@@ -167,6 +167,7 @@ where
     )
         ensures { KeepsFewer S.remaining S.contents self.old self.new }
     {
+        self.lap();
         let mut spending = Spending::within(ROUND_COST);
         for _ in 0..MAX_CONNECTIONS {
             if !spending.allows_more() {
@@ -176,8 +177,9 @@ where
                 return;
             };
             let came = self.visit(alloc, visit.room, visit.access, visit.text, log);
-            spending.spend(cost_of(&came));
+            let counted = cost_of(&came);
             admin.answer_visit(alloc, &self.hub, came);
+            spending.spend(self.lap().max(counted));
         }
     }
 
@@ -201,7 +203,7 @@ where
         }
     }
 
-    /// Whether anything waits to be written to a session that is open.
+    /// True if anything waits to be written to a session that is open.
     fn has_waiting(&self) -> bool {
         for key in 0..self.key_limit() {
             if let Some(connection) = self.connections.get(key) {
@@ -214,7 +216,7 @@ where
     }
 }
 
-/// What a visit cost.
+/// The cost of a visit, as it is counted.
 fn cost_of(came: &Result<Visit, AllocError>) -> u64 {
     match came {
         Ok(visit) => visit.cost.saturating_add(TURN_COST),

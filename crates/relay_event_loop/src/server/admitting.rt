@@ -98,7 +98,7 @@ impl<S: Read + Write + OpenStream + Drop, R: Readiness<S>> Server<S, R> {
         }
     }
 
-    /// Whether a connection has a session in a room.
+    /// True if a connection has a session in a room.
     fn is_in(&self, key: usize, room: &str) -> bool {
         match self.connections.get(key) {
             Some(connection) => {

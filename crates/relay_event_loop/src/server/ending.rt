@@ -1,4 +1,4 @@
-//! How connections end: what is said of them in the log, and what gives memory back.
+//! The end of connections: what is said of them in the log, and what gives memory back.
 ghost use Rattle.std.specs.Prelude.{◌≡◌, ◌≤◌, ◌⊎◌, ℕ, Some, nat_eq};
 ghost use Rattle.indexmap.specs.IndexMap.{get};
 ghost use Rattle.relay_event_loop.specs.Advances.{KeepsFewer};
@@ -18,7 +18,8 @@ use std::alloc::Global;
 use std::io::{Read, Write};
 use std::net::OpenStream;
 
-/// How many links are ended in a second at most, so that the others have room for their output.
+/// The maximum number of links that are ended in a second, so that the others have room for their
+/// output.
 const MAX_ENDS: u32 = 64;
 
 /// So many rounds, at least, lie between two entries of the log that say that memory was refused.
@@ -113,7 +114,7 @@ impl<S: Read + Write + OpenStream + Drop, R: Readiness<S>> Server<S, R> {
     /// Once a second, if links hold as much output as they may, ends at most [`MAX_ENDS`] of them,
     /// until half of the limit is free. The largest buffer goes first. Only a link that holds the
     /// average of all links at least is ended, and only if it has sent everything, or its stream
-    /// took nothing for long.
+    /// takes it too slowly ([`LinkOutput::is_over_due`]).
     #[tactic(auto, using(crate::proofs::Rules::advances))]
     pub(super) fn relieve<J: ConnectionLog>(&mut self, alloc: Global, before: u64, log: &mut J)
         ensures { KeepsFewer S.remaining S.contents self.old self.new }
@@ -132,7 +133,7 @@ impl<S: Read + Write + OpenStream + Drop, R: Readiness<S>> Server<S, R> {
     }
 
     /// The key of the connection that holds the most output, at least the average of all, among
-    /// those of which nothing waits or nothing was taken for long.
+    /// those of which nothing waits, or too little was taken.
     fn first_to_end(&self) -> Option<usize> {
         let mut first = None;
         let mut most = self.output.share(self.connections.len()).saturating_sub(1);
@@ -305,7 +306,7 @@ fn index_session(sessions: &mut IndexMap<u64, usize>, session: Option<u64>, key:
     }
 }
 
-/// Whether memory was refused to a turn.
+/// True if memory was refused to a turn.
 fn lacked_memory(turn: &Turn) -> bool {
     turn.stop == Some(DrawStop::Memory)
         || turn.cause == Some(EndCause::Memory)

@@ -1,4 +1,4 @@
-//! Which room is forgotten when there are as many as may be.
+//! The room that is forgotten when there are as many as may be.
 //!
 //! A new room replaces one in which nobody is and whose document is `null`. If the server
 //! forgets rooms, it sees to it that there is one: of the rooms in which nobody is, the one that
@@ -20,14 +20,14 @@ use std::alloc::{AllocError, Global};
 use std::io::{Read, Write};
 use std::net::OpenStream;
 
-/// What a server knows of its rooms besides the hub.
+/// The state that a server knows of its rooms besides the hub.
 #[derive(Drop)]
 pub(super) struct RoomVacancies {
     /// Since when they are empty.
     pub empty: EmptyRooms,
-    /// Whether the server forgets rooms.
+    /// True if the server forgets rooms.
     pub is_enabled: bool,
-    /// Whether a session was opened or closed since a room was last sought.
+    /// True if a session was opened or closed since a room was last sought.
     pub is_check_due: bool,
     /// The index of the room that was forgotten last, and the revision at which it began anew.
     vacated: Option<(usize, u64)>,
@@ -87,7 +87,7 @@ impl<S: Read + Write + OpenStream + Drop, R: Readiness<S>> Server<S, R> {
         }
     }
 
-    /// Whether there is a room for another name, as far as it is known: fewer began than may be, or
+    /// True if there is a room for another name, as far as it is known: fewer began than may be, or
     /// nobody has come to the one that was forgotten last.
     fn is_room_left(&self) -> bool {
         let last = self.hub.config().rooms.saturating_sub(1) as usize;

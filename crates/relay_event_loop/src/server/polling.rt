@@ -1,4 +1,4 @@
-//! How a round learns what became ready.
+//! A round's poll, by which it learns what became ready.
 ghost use Rattle.relay_event_loop.specs.Advances.{KeepsFewer};
 
 use super::Server;
@@ -7,7 +7,7 @@ use std::io::{Read, Write};
 use std::net::OpenStream;
 use std::time::Duration;
 
-/// How long a round waits at most if it has no work, in milliseconds.
+/// The maximum time for which a round waits if it has no work, in milliseconds.
 const WAIT: u64 = 100;
 
 impl<S: Read + Write + OpenStream + Drop, R: Readiness<S>> Server<S, R> {
@@ -38,7 +38,7 @@ impl<S: Read + Write + OpenStream + Drop, R: Readiness<S>> Server<S, R> {
         }
     }
 
-    /// Whether there is work without further events.
+    /// True if there is work without further events.
     fn has_work(&self) -> bool {
         self.accept_ready
             || self.hub.has_wills()

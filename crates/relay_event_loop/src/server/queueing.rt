@@ -1,4 +1,4 @@
-//! Which connections are queued for a turn.
+//! The connections that are queued for a turn.
 //!
 //! After each round every connection that wants a turn is queued for it ([`Server::unqueued`]).
 //! What it wants changes by its own turns and events, after which it is queued again; and by the
@@ -100,7 +100,7 @@ impl<S: Read + Write + OpenStream + Drop, R: Readiness<S>> Server<S, R> {
         self.hub.room_of(*told.sessions.first()?)
     }
 
-    /// Whether that room may be said more.
+    /// True if that room may be said more.
     pub(super) fn told_may_read_ahead(&self) -> bool {
         match self.told_room() {
             Some(room) => self.rooms.may_read_ahead(room),
@@ -113,8 +113,8 @@ impl<S: Read + Write + OpenStream + Drop, R: Readiness<S>> Server<S, R> {
         self.connections.get(key)?.room_index()
     }
 
-    /// How many connections the last text or will may have told something, besides the one that
-    /// sent it.
+    /// The number of connections that the last text or will may have told something, besides the
+    /// one that sent it.
     fn told(&self) -> usize {
         let told = self.hub.told();
         if told.all {

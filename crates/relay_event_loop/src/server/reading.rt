@@ -1,4 +1,4 @@
-//! Who is read in a round, and in which order.
+//! The connections that are read in a round, and their order.
 ghost use Rattle.relay_event_loop.specs.Advances.{KeepsFewer};
 
 use super::Server;
@@ -17,14 +17,14 @@ pub(super) const ROUND_COST: u64 = 5_000;
 /// A bound for loops that stop by cost: each step but the last costs a microsecond at least.
 pub(super) const MAX_PASSES: u64 = ROUND_COST;
 
-/// What a turn costs at least, in microseconds.
+/// The minimum cost of a turn, in microseconds.
 pub(super) const TURN_COST: u64 = 2;
 
-/// How many bytes are read in a microsecond.
+/// The number of bytes that are read in a microsecond.
 const BYTES_READ: u64 = 100;
 
-/// How many messages a read turn draws: the reply to its text. Whatever else it comes to is drawn
-/// by a write turn, since it may be long.
+/// The number of messages that a read turn draws: the reply to its text. Whatever else it comes to
+/// is drawn by a write turn, since it may be long.
 const READ_DRAWS: u64 = 1;
 
 impl<S: Read + Write + OpenStream + Drop, R: Readiness<S>> Server<S, R> {
@@ -34,6 +34,7 @@ impl<S: Read + Write + OpenStream + Drop, R: Readiness<S>> Server<S, R> {
     pub(super) fn read<J: ConnectionLog>(&mut self, alloc: Global, log: &mut J) -> Spending
         ensures { KeepsFewer S.remaining S.contents self.old self.new }
     {
+        self.lap();
         let mut spending = Spending::within(ROUND_COST);
         for _ in 0..MAX_PASSES {
             let before = self.texts_heard;
@@ -57,6 +58,7 @@ impl<S: Read + Write + OpenStream + Drop, R: Readiness<S>> Server<S, R> {
         ensures { KeepsFewer S.remaining S.contents self.old self.new }
     {
         let mut spending = before;
+        self.queues.ready.begin_credited_pass();
         for _ in 0..self.queues.ready.credited() {
             if !spending.allows_more() {
                 return spending;
@@ -96,6 +98,7 @@ impl<S: Read + Write + OpenStream + Drop, R: Readiness<S>> Server<S, R> {
     ) -> Spending
         ensures { KeepsFewer S.remaining S.contents self.old self.new }
     {
+        self.lap();
         let mut spending = before;
         for _ in 0..MAX_PASSES {
             let texts = self.texts_heard;
@@ -123,8 +126,8 @@ impl<S: Read + Write + OpenStream + Drop, R: Readiness<S>> Server<S, R> {
         ensures { KeepsFewer S.remaining S.contents self.old self.new }
     {
         let mut spending = before;
-        // If nobody owes, one look is made all the same: it begins the next round of credit.
-        for _ in 0..self.queues.ready.owing().max(1) {
+        self.queues.ready.begin_owing_pass();
+        for _ in 0..self.queues.ready.owing() {
             if spending != before && !spending.allows_more() {
                 return spending;
             }
@@ -136,30 +139,70 @@ impl<S: Read + Write + OpenStream + Drop, R: Readiness<S>> Server<S, R> {
         spending
     }
 
-    /// Gives a connection a read turn, if it may be read, and queues it again. Returns what the
-    /// turn cost; 0 if there was none.
+    /// Gives a connection a read turn, if it may be read, and queues it again. One that is skipped
+    /// comes before those that had a turn. Returns what the turn cost; 0 if there was none.
     #[tactic(auto, using(crate::proofs::Rules::advances))]
     fn read_at<J: ConnectionLog>(&mut self, alloc: Global, key: usize, log: &mut J) -> u64
         ensures { KeepsFewer S.remaining S.contents self.old self.new }
     {
-        let cost = match self.read_turn_draws(key) {
-            Some(draws) => self.read_link(alloc, key, draws, log),
-            None => 0,
+        let Some(draws) = self.read_turn_draws(key) else {
+            self.skip(key);
+            return 0;
         };
+        let counted = self.read_link(alloc, key, draws, log);
+        let cost = self.charge(key, counted);
         self.queue(key);
         cost
     }
 
-    /// How many messages a read turn of a connection may draw now: one, or none if a long snapshot
-    /// may be due. `None` if it must not be read now: a waiting reply can be sent first, its room
-    /// may not be read ahead, or there is nothing to read.
+    /// Queues a connection that had no turn: if it wants one later, before those that had one.
+    #[tactic(auto, using(crate::proofs::Rules::advances))]
+    fn skip(&mut self, key: usize)
+        ensures { KeepsFewer S.remaining S.contents self.old self.new }
+    {
+        if let Some(connection) = self.connections.get(key) {
+            if connection.may_read(&self.hub) {
+                let credit = connection.credit(self.queues.ready.round());
+                self.queues.ready.skip(key, credit);
+            }
+        }
+        self.queue(key);
+    }
+
+    /// The time since the last turn ended, in microseconds. Another turn begins now.
+    #[tactic(auto, using(crate::proofs::Rules::advances))]
+    pub(super) fn lap(&mut self) -> u64
+        ensures { KeepsFewer S.remaining S.contents self.old self.new }
+    {
+        let now = self.readiness.micros();
+        let lap = now.saturating_sub(self.lap_end);
+        self.lap_end = now;
+        lap
+    }
+
+    /// Ends a turn, which is counted to have cost so much, and has cost the time that it took if
+    /// that is more. Takes this from the credit of its connection, if that is held. Returns it.
+    #[tactic(auto, using(crate::proofs::Rules::advances))]
+    pub(super) fn charge(&mut self, key: usize, counted: u64) -> u64
+        ensures { KeepsFewer S.remaining S.contents self.old self.new }
+    {
+        let cost = self.lap().max(counted);
+        if let Some(connection) = self.connections.get(key) {
+            connection.charge(cost);
+        }
+        cost
+    }
+
+    /// The number of messages that a read turn of a connection may draw now: one, or none if a long
+    /// snapshot is due. `None` if it must not be read now: a waiting reply can be sent first,
+    /// its room may not be read ahead, or there is nothing to read.
     fn read_turn_draws(&self, key: usize) -> Option<u64> {
         let connection = self.connections.get(key)?;
         let may_read_ahead = match connection.room_index() {
             Some(index) => self.rooms.may_read_ahead(index),
             None => true,
         };
-        let has_sendable_reply = connection.standing().replies > 0
+        let has_sendable_reply = connection.replies(&self.hub) > 0
             && connection.has_output(&self.hub, Output::Waiting);
         if has_sendable_reply || !may_read_ahead || !connection.may_read(&self.hub) {
             return None;
@@ -170,7 +213,7 @@ impl<S: Read + Write + OpenStream + Drop, R: Readiness<S>> Server<S, R> {
         Some(0)
     }
 
-    /// Gives a link a read turn. Returns what it cost.
+    /// Gives a link a read turn. Returns its cost as it is counted.
     #[tactic(auto, using(crate::proofs::Rules::advances))]
     fn read_link<J: ConnectionLog>(
         &mut self,
@@ -193,7 +236,6 @@ impl<S: Read + Write + OpenStream + Drop, R: Readiness<S>> Server<S, R> {
             return TURN_COST;
         };
         let cost = cost_of(&turn, connection.readiness.take_read());
-        connection.charge(cost);
         connection.read_pending = connection.readiness.may_go_on();
         self.wanted.note(turn.turned_away.take());
         self.finish_turn(key, before, &turn, log);
@@ -201,7 +243,7 @@ impl<S: Read + Write + OpenStream + Drop, R: Readiness<S>> Server<S, R> {
     }
 }
 
-/// What a turn cost that read so many bytes.
+/// The cost of a turn that read so many bytes.
 fn cost_of(turn: &Turn, read: u64) -> u64 {
     turn.cost
         .saturating_add(read / BYTES_READ)

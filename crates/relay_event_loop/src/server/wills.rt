@@ -1,4 +1,4 @@
-//! How the wills of closed sessions are done.
+//! Does the wills of closed sessions.
 //!
 //! A session's end leaves its will in the hub, whatever memory there is. A round does what is left
 //! behind its read turns, and writes to those whom that told something.
@@ -28,12 +28,13 @@ impl<S: Read + Write + OpenStream + Drop, R: Readiness<S>> Server<S, R> {
     ) -> Spending
         ensures { KeepsFewer S.remaining S.contents self.old self.new }
     {
+        self.lap();
         let mut spending = before;
         for _ in 0..MAX_PASSES {
-            let Some(cost) = self.do_will(alloc, log) else {
+            let Some(counted) = self.do_will(alloc, log) else {
                 return spending;
             };
-            spending.spend(cost);
+            spending.spend(self.lap().max(counted));
             if !spending.allows_more() || !self.told_may_read_ahead() {
                 return spending;
             }
@@ -63,8 +64,8 @@ impl<S: Read + Write + OpenStream + Drop, R: Readiness<S>> Server<S, R> {
     }
 
     /// Does the oldest will that is left, and queues those whom it told something. If memory is
-    /// refused, the hub gives memory back, and the will is tried once more. Returns what it cost;
-    /// `None` if none is left, or if memory was refused again, so that it is left.
+    /// refused, the hub gives memory back, and the will is tried once more. Returns its cost as it
+    /// is counted; `None` if none is left, or if memory was refused again, so that it is left.
     #[tactic(auto, using(crate::proofs::Rules::advances))]
     fn do_will<J: ConnectionLog>(&mut self, alloc: Global, log: &mut J) -> Option<u64>
         ensures { KeepsFewer S.remaining S.contents self.old self.new }

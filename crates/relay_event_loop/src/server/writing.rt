@@ -1,4 +1,4 @@
-//! Who is written to in a round, and in which order.
+//! The connections that are written to in a round, and their order.
 ghost use Rattle.relay_event_loop.specs.Advances.{KeepsFewer};
 
 use super::Server;
@@ -20,6 +20,23 @@ const PASS_DRAWN: u64 = 262_144;
 /// each byte of it by at most six.
 const SMALL: u64 = 4_096;
 
+/// The result of a write turn.
+#[derive(Clone, Copy)]
+struct Written {
+    /// The number of bytes in the texts that it drew.
+    drawn: u64,
+    /// Its cost in microseconds, as it is counted.
+    counted: u64,
+}
+
+impl Written {
+    /// The result of a turn that was not given, or that found no memory.
+    const NOTHING: Written = Written {
+        drawn: 0,
+        counted: 0,
+    };
+}
+
 impl<S: Read + Write + OpenStream + Drop, R: Readiness<S>> Server<S, R> {
     /// Writes to the links that have corked output, so that a reply does not wait for the patches
     /// of others, and then to all for which something waits.
@@ -27,6 +44,7 @@ impl<S: Read + Write + OpenStream + Drop, R: Readiness<S>> Server<S, R> {
     pub(super) fn write<J: ConnectionLog>(&mut self, alloc: Global, log: &mut J)
         ensures { KeepsFewer S.remaining S.contents self.old self.new }
     {
+        self.lap();
         self.write_each(alloc, Output::Corked, log);
         if !self.output.is_full() {
             self.release();
@@ -76,7 +94,7 @@ impl<S: Read + Write + OpenStream + Drop, R: Readiness<S>> Server<S, R> {
             return 0;
         };
         let drawn = if self.has_output(key, output) {
-            self.write_link(alloc, key, draws, log)
+            self.write_at(alloc, key, draws, log)
         } else {
             0
         };
@@ -84,42 +102,10 @@ impl<S: Read + Write + OpenStream + Drop, R: Readiness<S>> Server<S, R> {
         drawn
     }
 
-    /// How many messages a write turn for such output may draw, if there may be something to write.
-    /// A long snapshot is not drawn in three cases: for corked output, for a peer that has closed,
-    /// and while the links hold as much output as they may.
-    fn draws(&self, key: usize, output: Output) -> Option<u64> {
-        let connection = self.connections.get(key)?;
-        let ready = connection.readiness.ready();
-        let is_ending = ready.is_over && ready.readable;
-        let may_draw_all = output == Output::Waiting && !is_ending && !self.output.is_full();
-        if may_draw_all || self.has_no_long_snapshot(connection) {
-            return Some(MAX_DRAWS);
-        }
-        let now = connection.standing();
-        let is_framed = now.output.unsent > 0 || connection.link.has_corked_output();
-        (now.replies > 0 || is_framed).then_some(now.replies)
-    }
-
-    /// Whether no snapshot of a large document waits for a connection.
-    pub(super) fn has_no_long_snapshot(&self, connection: &Connection<S>) -> bool {
-        let index = connection.room_index().unwrap_or(usize::MAX);
-        match self.hub.room_at(index) {
-            Some(room) => room.weight <= SMALL || !connection.may_be_due(&self.hub),
-            None => true,
-        }
-    }
-
-    /// Whether a connection is held that has such output.
-    fn has_output(&self, key: usize, output: Output) -> bool {
-        match self.connections.get(key) {
-            Some(connection) => connection.has_output(&self.hub, output),
-            None => false,
-        }
-    }
-
-    /// Gives a link a write turn. Returns how many bytes the texts have that it drew.
+    /// Gives a link a write turn, and takes its cost from the connection's credit. Returns the
+    /// number of bytes in the texts that it drew.
     #[tactic(auto, using(crate::proofs::Rules::advances))]
-    fn write_link<J: ConnectionLog>(
+    fn write_at<J: ConnectionLog>(
         &mut self,
         alloc: Global,
         key: usize,
@@ -128,16 +114,68 @@ impl<S: Read + Write + OpenStream + Drop, R: Readiness<S>> Server<S, R> {
     ) -> u64
         ensures { KeepsFewer S.remaining S.contents self.old self.new }
     {
+        let written = self.write_link(alloc, key, draws, log);
+        self.charge(key, written.counted);
+        written.drawn
+    }
+
+    /// The number of messages that a write turn for such output may draw, if there may be something
+    /// to write. A long snapshot is not drawn in three cases: for corked output, for a peer that
+    /// has closed, and while the links hold as much output as they may.
+    fn draws(&self, key: usize, output: Output) -> Option<u64> {
+        let connection = self.connections.get(key)?;
+        let ready = connection.readiness.ready();
+        let is_ending = ready.is_over && ready.readable;
+        let may_draw_all = output == Output::Waiting && !is_ending && !self.output.is_full();
+        if may_draw_all || self.has_no_long_snapshot(connection) {
+            return Some(MAX_DRAWS);
+        }
+        let replies = connection.replies(&self.hub);
+        let is_framed = connection.standing().output.unsent > 0
+            || connection.link.has_corked_output();
+        (replies > 0 || is_framed).then_some(replies)
+    }
+
+    /// True if no snapshot of a large document waits for a connection.
+    pub(super) fn has_no_long_snapshot(&self, connection: &Connection<S>) -> bool {
+        let index = connection.room_index().unwrap_or(usize::MAX);
+        match self.hub.room_at(index) {
+            Some(room) => room.weight <= SMALL || !connection.is_due(&self.hub),
+            None => true,
+        }
+    }
+
+    /// True if a connection is held that has such output.
+    fn has_output(&self, key: usize, output: Output) -> bool {
+        match self.connections.get(key) {
+            Some(connection) => connection.has_output(&self.hub, output),
+            None => false,
+        }
+    }
+
+    /// Gives a link a write turn.
+    #[tactic(auto, using(crate::proofs::Rules::advances))]
+    fn write_link<J: ConnectionLog>(
+        &mut self,
+        alloc: Global,
+        key: usize,
+        draws: u64,
+        log: &mut J,
+    ) -> Written
+        ensures { KeepsFewer S.remaining S.contents self.old self.new }
+    {
         let Some(connection) = self.connections.get_mut(key) else {
-            return 0;
+            return Written::NOTHING;
         };
         let before = connection.link.stage();
         let Ok(turn) = connection.link.write_turn(alloc, &mut self.hub, draws) else {
             self.shed(log);
-            return 0;
+            return Written::NOTHING;
         };
-        connection.charge(turn.cost.saturating_add(TURN_COST));
         self.finish_turn(key, before, &turn, log);
-        turn.drawn
+        Written {
+            drawn: turn.drawn,
+            counted: turn.cost.saturating_add(TURN_COST),
+        }
     }
 }

@@ -1,4 +1,4 @@
-//! What a hub tells of itself. Nothing here changes it.
+//! Queries of a hub, which leave it unchanged.
 ghost use Rattle.std.specs.Prelude.{◌≡◌, ◌≢◌, ◌↔◌, Some, None, IfOk, IsErrOf, option_map};
 ghost use Rattle.std.specs.Prelude.{slice_get};
 ghost use Rattle.relay_hub.specs.State.{IsHub, index_of, session_of};
@@ -7,6 +7,7 @@ ghost use Rattle.relay_hub.specs.Session.{waiting};
 ghost use Rattle.relay_hub.specs.Summary.{room_named, shown_by, summary_of};
 ghost use Rattle.relay_tree.specs.Document.{saturated};
 ghost use Rattle.relay_hub.specs.Queries.{room_and_session, may_hear, rooms_weight, truth};
+ghost use Rattle.relay_hub.specs.Queries.{is_due, replies};
 
 use super::Hub;
 use crate::config::HubConfig;
@@ -36,8 +37,8 @@ impl Hub {
         self.config
     }
 
-    /// How many messages its sessions drew since it was made, by kind. No clause speaks of these
-    /// numbers. Allocates nothing.
+    /// The number of messages that its sessions drew since it was made, by kind. No clause speaks
+    /// of these numbers. Allocates nothing.
     ///
     /// ```
     /// let mut hub = Hub::new(alloc, 1, 1, 64, 32).ok()?;
@@ -50,8 +51,8 @@ impl Hub {
         &self.counts
     }
 
-    /// How many edits its rooms accepted since it was made, those of wills among them. No clause
-    /// speaks of it. Allocates nothing.
+    /// The number of edits that its rooms accepted since it was made, those of wills among them. No
+    /// clause speaks of it. Allocates nothing.
     ///
     /// ```
     /// let mut hub = Hub::new(alloc, 1, 1, 64, 32).ok()?;
@@ -65,7 +66,7 @@ impl Hub {
         self.report.edits
     }
 
-    /// What its texts, wills and draws cost since it was made: an estimate in microseconds on the
+    /// The cost of its texts, wills and draws since it was made: an estimate in microseconds on the
     /// machine of docs/PERFORMANCE.md, within a factor of about two, counted where the work is
     /// done. No clause speaks of it. Allocates nothing.
     ///
@@ -109,8 +110,8 @@ impl Hub {
         Some((room_sessions.room(), room_sessions.session(session)))
     }
 
-    /// Whether a text of the session would be answered: it is open, and fewer than 32 replies wait.
-    /// Allocates nothing.
+    /// Returns true if a text of the session would be answered: it is open, and fewer than 32
+    /// replies wait. Allocates nothing.
     ///
     /// ```
     /// let mut hub = Hub::new(alloc, 1, 1, 64, 32).ok()?;
@@ -131,8 +132,8 @@ impl Hub {
         }
     }
 
-    /// How many messages wait for the session: the number of draws that would return a text now.
-    /// `None` if it is not open. Allocates nothing.
+    /// The number of messages that wait for the session, that is, of draws that would return a text
+    /// now. `None` if it is not open. Allocates nothing.
     ///
     /// ```
     /// let mut hub = Hub::new(alloc, 1, 1, 64, 32).ok()?;
@@ -147,6 +148,43 @@ impl Hub {
     {
         let (_, session) = self.find(session)?;
         Some(session.waiting())
+    }
+
+    /// The number of replies among the messages that wait for the session. They are drawn before
+    /// the patches, and before the snapshot that is due. `None` if it is not open. Allocates
+    /// nothing.
+    ///
+    /// ```
+    /// let mut hub = Hub::new(alloc, 1, 1, 64, 32).ok()?;
+    /// let session = hub.open(alloc, "board", Access::ReadWrite).ok()?.session;
+    /// hub.receive(alloc, session, r#"{"do": "watch", "id": 1, "view": [""]}"#).ok()?;
+    /// // The welcome and the reply.
+    /// assert!(rt; hub.replies(session) == Some(2));
+    /// ```
+    pub fn replies(&self, session: u64) -> Option<u64>
+        ensures { result ≡ option_map replies (session_of self.now session) }
+    {
+        let (_, session) = self.find(session)?;
+        Some(session.replies())
+    }
+
+    /// Returns true if a snapshot is due for the session, behind the replies that wait. Then no
+    /// patch waits. Allocates nothing.
+    ///
+    /// ```
+    /// let mut hub = Hub::new(alloc, 1, 1, 64, 32).ok()?;
+    /// let session = hub.open(alloc, "board", Access::ReadWrite).ok()?.session;
+    /// assert!(rt; !hub.is_due(session));
+    /// hub.receive(alloc, session, r#"{"do": "watch", "id": 1, "view": [""]}"#).ok()?;
+    /// assert!(rt; hub.is_due(session));
+    /// ```
+    pub fn is_due(&self, session: u64) -> bool
+        ensures { result ≡ is_due (session_of self.now session) }
+    {
+        match self.find(session) {
+            Some((_, session)) => session.is_due(),
+            None => false,
+        }
     }
 
     /// The index of the session's room ([`Hub::room_at`]), which it keeps while the session is
@@ -233,8 +271,8 @@ impl Hub {
         }
     }
 
-    /// What the patches weigh that wait for all sessions; 0 if no bound was set, since then it is
-    /// not counted ([`HubConfig::waiting_weight`]); `u64::MAX` if it is more. Allocates nothing.
+    /// The weight of the patches that wait for all sessions; 0 if no bound was set, since then it
+    /// is not counted ([`HubConfig::waiting_weight`]); `u64::MAX` if it is more. Allocates nothing.
     ///
     /// ```
     /// let bound = Budget::Left(65_536);
@@ -253,7 +291,7 @@ impl Hub {
     }
 }
 
-/// What the patches weigh that wait for the sessions of all rooms, as far as that is bounded.
+/// The weight of the patches that wait for the sessions of all rooms, as far as that is bounded.
 fn weight_of_rooms(rooms: &IndexMap<String, RoomSessions>) -> u64
     ensures { result ≡ saturated (rooms_weight (rooms_of rooms.now.entries)) }
 {

@@ -1,4 +1,4 @@
--- What is written, and behind it what is left, stays.
+-- The text that is written, with the text that is left behind it, stays.
 use Rattle.std.proofs.Common.{◌≡◌, ◌++◌, length}
 use Rattle.json.specs.Print.{ArePrintable}
 use Rattle.relay_admin.proofs.asking.write_rest.Given as goal

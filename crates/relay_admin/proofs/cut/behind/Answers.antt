@@ -1,4 +1,4 @@
--- What `strip_prefix` finds is the text behind the prefix.
+-- The text that `strip_prefix` finds is the text behind the prefix.
 use Rattle.relay_admin.proofs.Prefixes.{stripped}
 use Rattle.relay_admin.proofs.cut.behind.Goals as goal
 

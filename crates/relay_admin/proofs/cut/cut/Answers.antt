@@ -1,4 +1,4 @@
--- What `split_once` finds stands before and behind the first mark.
+-- The parts that `split_once` finds stand before and behind the first mark.
 use Rattle.std.proofs.Common.{◌∙◌, sym, ap, arith, take_all, Some}
 use Rattle.relay_admin.proofs.Cuts.{until-first, after-first, after-none}
 use Rattle.relay_admin.proofs.cut.cut.Goals as goal

@@ -1,7 +1,12 @@
 use Rattle.std.proofs.Common.{◌≡◌, false, sym, ap, ◌∙◌, ◌∷◌, []}
 use Rattle.relay_pointer.specs.Path.{is_proper_prefix}
 use Rattle.relay_apply.proofs.ChangeOf.{move_stays, move_passes, move_refuses, move-change}
-use Rattle.relay_patch.proofs.Refusals.{refused_by, starved_by}
+use Rattle.std.proofs.Common.{◌+◌, refl}
+use Rattle.relay_pointer.specs.Weight.{path_weight}
+use Rattle.relay_patch.specs.declared.op.Op.TheVariants.{Move}
+use Rattle.relay_patch.specs.declared.change.Change.TheVariants as change
+use Rattle.relay_apply.specs.Steps.{insert_place}
+use Rattle.relay_apply.proofs.Overspent.{refused_within, unpaid_within}
 use Rattle.relay_apply.proofs.change_of.change_of_move.Goals as goal
 use Rattle.relay_tree.proofs.Outcomes.{err_and}
 
@@ -40,7 +45,8 @@ returns-in_err-insert_target-clause-err c =
     ) at c.in_err-insert_target.ensures.insert_target in
     err_and c.from_residual-in_err-insert_target.result
     c.from_residual-in_err-insert_target.ensures.1 (λ e is.
-    rw is (refused_by _ c.in_err-insert_target.field-0.0
+    rw is (refused_within c.args.tree.now (Move c.args.from.now c.args.path.now) c.args.left
+    c.in_err-insert_target.field-0.0
     (move_refuses c.args.from.now c.args.path.now c.args.tree.now c.in_ok-value.value.now
     c.in_err-insert_target.field-0.0 there outside elsewhere goes resolved)
     c.in_err-insert_target.ensures.other))
@@ -60,11 +66,22 @@ returns-in_err-relocation-clause-err c =
       c.tokens-4.ensures,
       c.tokens-5.ensures,
     ) at c.in_ok-insert_target.ensures.insert_target in
+    let item = rw c.tokens-6.ensures at c.is_item_at-item.ensures in
+    let s = c.in_ok-insert_target.insert_target in
+    let d = c.args.tree.now in
+    let from = c.args.from.now in
+    let path = c.args.path.now in
+    let v = c.in_ok-value.value.now in
+    let to = insert_place s path in
     err_and c.from_residual-in_err-relocation.result c.from_residual-in_err-relocation.ensures.1
     (λ e is.
-    starved_by _ e (move_passes c.args.from.now c.args.path.now c.args.tree.now
-    c.in_ok-value.value.now c.in_ok-insert_target.insert_target there outside goes resolved)
-    is)
+    rw is (unpaid_within d (Move from path) c.args.left c.in_err-relocation.field-0.0
+    (change.Move (record { path = from; item = c.is_item_at-item.result }) to v) v
+    (path_weight from + path_weight to.path)
+    (move_passes from path d v s there outside goes resolved)
+    (move-change from path d v s c.is_item_at-item.result there outside elsewhere item goes
+    resolved)
+    refl c.in_err-relocation.ensures.unpaid))
 
 pub returns-clause-ok : goal.returns-clause-ok
 returns-clause-ok c =
@@ -100,7 +117,7 @@ returns-clause-changes c =
       c.tokens-5.ensures,
     ) at c.in_ok-insert_target.ensures.insert_target in
     let item = rw c.tokens-6.ensures at c.is_item_at-item.ensures in
-    ap (λ x. x ∷ []) c.in_ok-relocation.ensures
+    ap (λ x. x ∷ []) c.in_ok-relocation.ensures.ok
     ∙ move-change c.args.from.now c.args.path.now c.args.tree.now c.in_ok-value.value.now
     c.in_ok-insert_target.insert_target c.is_item_at-item.result there outside elsewhere item
     goes resolved

@@ -1,4 +1,4 @@
--- What was heard, and then what was told.
+-- The texts that were heard, and then those that were told.
 use Rattle.relay_link.proofs.Stopping.{draws_grow, stops_after}
 use Rattle.relay_link.proofs.Telling.{exchanged}
 use Rattle.relay_link.proofs.opened.hear_and_draw.Goals as goal

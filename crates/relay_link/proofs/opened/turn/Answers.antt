@@ -1,5 +1,5 @@
--- What the link said, what it read and passed on, and where its next turn reads on. A wider read
--- buffer changes nothing of its socket.
+-- The texts that the link said, those that it read and passed on, and the place at which its next
+-- turn reads on. A wider read buffer changes nothing of its socket.
 use Rattle.std.proofs.Common.{Some, subst}
 use Rattle.relay_link.specs.Adds.{texts_of}
 use Rattle.relay_link.specs.Follows.{at}

@@ -1,4 +1,4 @@
--- What the options say of output is the limit of the server that is made.
+-- The number that the options give for output is the limit of the server that is made.
 use Rattle.std.proofs.Common.{◌∙◌, ap}
 use Rattle.relay_event_loop.specs.Limits.{output_limit_of}
 use Rattle.relay_server.proofs.serve.server_of.Goals as goal

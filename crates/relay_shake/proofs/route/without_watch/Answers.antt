@@ -1,4 +1,4 @@
--- What `strip_suffix` finds is the text before the suffix.
+-- The text that `strip_suffix` finds is the text before the suffix.
 use Rattle.std.proofs.Common.{codes}
 use Rattle.relay_shake.proofs.Suffixes.{stripped}
 use Rattle.relay_shake.proofs.route.without_watch.Goals as goal

@@ -1,4 +1,4 @@
--- What is an invariant of the fields holds of the hub.
+-- An invariant of the fields holds of the hub.
 use Rattle.std.proofs.Common.{subst}
 use Rattle.relay_hub.specs.State.{IsHub}
 use Rattle.relay_hub.proofs.hub.Hub.config.Goals as goal

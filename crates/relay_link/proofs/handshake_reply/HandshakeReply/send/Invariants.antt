@@ -1,4 +1,4 @@
--- What was written so far and the rest are the reply. The rest becomes shorter.
+-- The bytes written so far and the rest are the reply. The rest becomes shorter.
 use Rattle.std.proofs.Common.{◌≡◌, ◌++◌, ℕ, List, vec_len}
 use Rattle.std.specs.Io.KnownBytes.{Appends}
 use Rattle.relay_link.proofs.handshake_reply.HandshakeReply.send.Given as goal

@@ -1,4 +1,4 @@
--- What the hub shows at an index is the next room that is seen, or there is none.
+-- The room that the hub shows at an index is the next that is seen, or there is none.
 use Rattle.std.proofs.Common.{◌≡◌, ◌+◌, drop, arith, ap, sym, subst, IfOk, string_bytes, ◌∙◌}
 use Rattle.json.specs.Lex.{tokens as tokens_in}
 use Rattle.json.specs.Print.{print}

@@ -1,4 +1,4 @@
--- What the hub shows at an index is the next room that is seen, or there is none.
+-- The room that the hub shows at an index is the next that is seen, or there is none.
 use Rattle.std.proofs.Common.{arith, ap, sym, ◌∙◌}
 use Rattle.relay_hub.specs.Summary.{shown_by}
 use Rattle.relay_operator.specs.Numbers.{rooms_seen, with_room}

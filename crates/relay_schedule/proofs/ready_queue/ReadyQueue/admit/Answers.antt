@@ -6,4 +6,5 @@ use Rattle.relay_schedule.proofs.ready_queue.ReadyQueue.admit.Goals as goal
 pub invariant_of-self-2 : goal.invariant_of-self-2
 invariant_of-self-2 c =
     lines_with_same (lines_of c.self.inside) c.admit.new.self c.admit-2.new.self c.self.invariant
-    c.admit.ensures.kept c.admit-2.ensures.kept
+    c.admit.ensures.waiting c.admit.ensures.served c.admit-2.ensures.waiting
+    c.admit-2.ensures.served

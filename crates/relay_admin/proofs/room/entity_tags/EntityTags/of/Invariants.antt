@@ -1,4 +1,4 @@
--- What is listed so far, and behind it what the other fields list.
+-- The items that are listed so far, and behind them those that the other fields list.
 use Rattle.std.proofs.Common.{◌≡◌, ◌++◌, map, drop}
 use Rattle.httparse.specs.Borrowed.{header_parts}
 use Rattle.relay_admin.specs.Conditions.{listed}
