@@ -266,7 +266,9 @@ func TestARefusedEditIsTakenBack(t *testing.T) {
 	}
 	room.reply(`"kind":"refused","fault":"missing","at":0`)
 	for _, wanted := range []string{
-		"0 [[[a]]]", "1 [[[a b]]]", "0 [[[a]]]", "relay: refused as missing at 0",
+		"0 [[[a]]]", "1 [[[a b]]]", "0 [[[a]]]",
+		"relay: refused as missing at 0: nothing stands there: " +
+			"look again, or add what is around it first",
 	} {
 		if word := <-told; word != wanted {
 			t.Fatalf("it tells %s, and not %s", word, wanted)
@@ -309,7 +311,7 @@ func TestAnEditThatFailsAtOnceIsToldOfFirst(t *testing.T) {
 	room.send(push, Optimistic, On(Revision{1, 7}))
 	for _, wanted := range []string{
 		"0 [[[a]]]", "1 [[[a tea]]]", "0 [[[a]]]",
-		"relay: refused as stale, the room is at revision 1",
+		"relay: refused as stale, the room is at revision 1: " + advice["stale"],
 	} {
 		if word := <-told; word != wanted {
 			t.Fatalf("it tells %s, and not %s", word, wanted)

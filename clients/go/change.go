@@ -6,7 +6,7 @@ import (
 	"time"
 )
 
-// How often an edit is made anew at most when others are faster.
+// tries is how often an edit is made anew at most when others are faster.
 const tries = 20
 
 const (

@@ -3,6 +3,9 @@ package relay
 import (
 	"errors"
 	"fmt"
+	"net/http"
+	"net/url"
+	"regexp"
 )
 
 var (
@@ -51,7 +54,54 @@ func (r *Refused) Error() string {
 	if r.Rev != nil {
 		words += fmt.Sprintf(", the room is at revision %d", *r.Rev)
 	}
+	if what, known := advice[r.Fault]; known {
+		words += ": " + what
+	}
 	return words
+}
+
+// HandshakeFailed is why there is no connection, as Options.OnState is told of it. The board goes
+// on trying, but for a first answer that is a 404: then the address is none of a room.
+type HandshakeFailed struct {
+	URL    string
+	Status int   // of the answer, as 404; 0 if nothing answered
+	Err    error // of the library
+}
+
+func (h *HandshakeFailed) Error() string {
+	words := "relay: " + h.URL + " refuses the connection, with "
+	switch h.Status {
+	case 0:
+		return "relay: nothing answers at " + h.URL + ": " + h.Err.Error()
+	case http.StatusNotFound:
+		return words + "404: " + wrongAddress(h.URL)
+	case http.StatusServiceUnavailable:
+		return words + "503: it is full (--sessions, --rooms), --closed, or stopping"
+	default:
+		return fmt.Sprint(words, h.Status)
+	}
+}
+
+func (h *HandshakeFailed) Unwrap() error { return h.Err }
+
+var ofRoom = regexp.MustCompile(`^/rooms/[\w-]+(/watch)?$`)
+
+// wrongAddress says what is wrong with an address, as far as it shows.
+func wrongAddress(address string) string {
+	parts, err := url.Parse(address)
+	switch {
+	case err == nil && !ofRoom.MatchString(parts.Path):
+		return "a room is at /rooms/NAME, and this path is " + parts.Path
+	case err == nil && parts.RawQuery != "":
+		return "leave out the `?` and what follows"
+	default:
+		return "what answers there has no rooms, or none to watch only"
+	}
+}
+
+func isNoRoom(err error) bool {
+	var failed *HandshakeFailed
+	return errors.As(err, &failed) && failed.Status == http.StatusNotFound
 }
 
 func isStale(err error) bool {

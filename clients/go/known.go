@@ -8,8 +8,9 @@ import (
 	"strconv"
 )
 
-// What the slots of a view tell of their document, and of those to which patches lead: the values
-// at some paths of which none leads into another. Of what no value slot shows nothing is known.
+// known is what the slots of a view tell of their document, and of those to which patches lead: the
+// values at some paths of which none leads into another. Of what no value slot shows nothing is
+// known.
 type known []root
 
 type root struct {

@@ -2,9 +2,9 @@ package relay
 
 import "fmt"
 
-// What a patch has copied is its own until it is done, and it writes to that and to nothing else:
-// so it copies each container once. An own container stands at one place, within others that are
-// own.
+// ownList and ownObject are what a patch has copied, which is its own until it is done, and it
+// writes to that and to nothing else: so it copies each container once. An own container stands at
+// one place, within others that are own.
 type ownList struct{ items []any }
 type ownObject struct{ members map[string]any }
 

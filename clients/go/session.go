@@ -130,6 +130,7 @@ type session struct {
 	sent     []*request // without a reply, oldest first
 	ids      int64
 	failures int
+	entered  bool // by any connection
 }
 
 func (s *session) run(ctx context.Context) {
@@ -141,11 +142,26 @@ func (s *session) run(ctx context.Context) {
 		if err == nil {
 			s.serve(socket)
 		}
+		if isNoRoom(err) && s.neverEntered(err) {
+			return
+		}
 		select {
 		case <-time.After(s.lost(err)):
 		case <-ctx.Done():
 		}
 	}
+}
+
+// neverEntered ends a session that never entered its room. Once it did, a 404 may be the answer of
+// a proxy that is being set up anew.
+func (s *session) neverEntered(cause error) bool {
+	s.lock.Lock()
+	defer s.lock.Unlock()
+	if s.entered {
+		return false
+	}
+	s.end(cause)
+	return true
 }
 
 // lost gives how long to wait for the next try.
@@ -374,6 +390,7 @@ func (s *session) take(told *message) error {
 	switch {
 	case told.Kind == "welcome" && s.welcome == nil:
 		s.welcome, s.away, s.failures = told, false, 0
+		s.entered = true
 		return nil
 	case s.welcome == nil:
 		return errAstray

@@ -27,9 +27,14 @@ var usual = keepalive{
 
 var room = regexp.MustCompile(`^wss?://[^/?#]+/([^?#]*/)?rooms/[A-Za-z0-9_-]{1,64}$`)
 
+var watched = regexp.MustCompile(`^wss?://[^?#]+/rooms/[\w-]+/watch$`)
+
 // Connect enters a room, as ws://127.0.0.1:8080/rooms/board, and comes back to it until the context
 // is done or the board is closed. It fails if the address is none of a room, and as ConnectBy does.
 func Connect(ctx context.Context, url string, view []Shown, options Options) (*Board, error) {
+	if watched.MatchString(url) && !room.MatchString(url) {
+		return nil, fmt.Errorf("relay: leave out `/watch`, and use Options.ReadOnly: %q", url)
+	}
 	if !room.MatchString(url) {
 		return nil, fmt.Errorf("relay: not the address of a room: %q", url)
 	}
@@ -84,9 +89,13 @@ func open(ctx context.Context, url string, alive keepalive) (Socket, error) {
 		below.pong()
 		return below, nil
 	}
-	conn, _, err := dialer.DialContext(ctx, url, nil)
+	conn, answer, err := dialer.DialContext(ctx, url, nil)
 	if err != nil {
-		return nil, err
+		failed := &HandshakeFailed{URL: url, Err: err}
+		if answer != nil {
+			failed.Status = answer.StatusCode
+		}
+		return nil, failed
 	}
 	conn.SetPongHandler(func(string) error { below.pong(); return nil })
 	socket := &webSocket{conn: conn, alive: alive, closed: make(chan struct{})}

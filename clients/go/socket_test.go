@@ -2,6 +2,7 @@ package relay
 
 import (
 	"context"
+	"errors"
 	"net"
 	"net/http"
 	"net/http/httptest"
@@ -144,5 +145,43 @@ func TestWhoOnlyWatchesEntersByAnAddressOfItsOwn(t *testing.T) {
 			t.Errorf("it asks for %s, and not %s", told, target)
 		}
 		board.Close()
+	}
+}
+
+func TestAnAddressToWatchByIsRefusedWithAdvice(t *testing.T) {
+	address := "ws://127.0.0.1:1/rooms/demo/watch"
+	_, err := Connect(context.Background(), address, View(""), Options{})
+	if err == nil || !strings.Contains(err.Error(), "leave out `/watch`, and use Options.ReadOnly") {
+		t.Error(err)
+	}
+	asked := HandshakeFailed{URL: "ws://h/rooms/demo?a=b", Status: 404}
+	if !strings.HasSuffix(asked.Error(), "with 404: leave out the `?` and what follows") {
+		t.Error(asked.Error())
+	}
+}
+
+func TestA404EndsABoardThatWasNeverInItsRoom(t *testing.T) {
+	relay := httptest.NewServer(http.NotFoundHandler())
+	defer relay.Close()
+	address := "ws" + strings.TrimPrefix(relay.URL, "http") + "/b/rooms/a"
+	states := make(chan State, 10)
+	options := Options{OnState: func(state State, _ error) { states <- state }}
+	board, err := Connect(context.Background(), address, View("/n"), options)
+	if err != nil {
+		t.Fatal(err)
+	}
+	defer board.Close()
+	_, err = board.Ready(soon(t))
+	var failed *HandshakeFailed
+	if !errors.As(err, &failed) || failed.Status != 404 {
+		t.Fatal(err)
+	}
+	wanted := "relay: " + address + " refuses the connection, with 404: a room is at " +
+		"/rooms/NAME, and this path is /b/rooms/a"
+	if err.Error() != wanted || board.Err() != err {
+		t.Errorf("%v, and %v", err, board.Err())
+	}
+	if one, other := <-states, <-states; one != Connecting || other != Closed {
+		t.Error(one, other)
 	}
 }

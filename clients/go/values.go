@@ -57,7 +57,7 @@ func (s Shown) path() []string {
 }
 
 // Slot is the value at a pointer, alone, or nothing if the pointer leads to none. A number is a
-// json.Number. Nobody writes to a slot, and nobody may.
+// json.Number. Nobody writes to a slot, and nobody may: sort what Decode gives, which is a copy.
 type Slot []any
 
 // Decode makes another value of that of a slot, as encoding/json does. It gives whether there is

@@ -1,12 +1,14 @@
 // Makes relay.js, for script tags and `require`, and relay.mjs, for `import`, from src/: one file
-// each, in which each module is a function that is called once and gives what it exports. `node
-// build.mjs` writes them; `node build.mjs --check` fails where they are not what it would write.
+// each, in which each module is a function that is called once and gives what it exports. And
+// copies the licences of the repository, which a package has to bring. `node build.mjs` writes all
+// of them; `node build.mjs --check` fails where they are not what it would write.
 import { readFileSync, writeFileSync } from "node:fs";
 
 const HERE = new URL(".", import.meta.url);
 const COLUMNS = 100;
 const MADE =
-  "// Made from src/ by build.mjs. What it is for: ../README.md; its types: relay.d.ts.\n";
+  "// Made from src/ by build.mjs. What it is for: ../README.md; its types: relay.d.ts.\n" +
+  "// SPDX-License-Identifier: MIT OR Apache-2.0\n";
 const IMPORT = /^import \{ (.*) \} from "\.\/(.*)\.mjs";$/gm;
 const REEXPORT = /^export \{ (.*) \} from "\.\/(.*)\.mjs";$/gm;
 const EXPORT = /^export (?=(?:async )?(?:function|class|const) (\w+))/gm;
@@ -58,11 +60,17 @@ ${listed("export", names, ";")}
   "relay.js": `${MADE}"use strict";
 (() => {
 ${body}
-globalThis.relay = relayModule;
 if (typeof module === "object") module.exports = relayModule;
+else globalThis.relay = relayModule;
 })();
 `,
+  "LICENSE-APACHE": licence("APACHE"),
+  "LICENSE-MIT": licence("MIT"),
 };
+
+function licence(name) {
+  return readFileSync(new URL(`../../LICENSE-${name}`, HERE), "utf8");
+}
 
 for (const [name, text] of Object.entries(files)) {
   const file = new URL(name, HERE);

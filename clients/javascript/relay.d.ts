@@ -23,7 +23,7 @@ export type PointerOf<K extends readonly (string | number)[]> = K extends readon
 /** The pointer of keys, names of members and indexes: `pointer("cards", 0)` is `/cards/0`. */
 export function pointer<K extends readonly (string | number)[]>(...keys: K): PointerOf<K>;
 
-/** What the relay tells. */
+/** A JSON value, as the relay tells it. */
 export type Json =
   | null
   | boolean
@@ -33,13 +33,14 @@ export type Json =
   | { readonly [name: string]: Json };
 
 /**
- * What is written: JSON, also of an interface or a class. Numbers are whole and within 2^53; what
- * JSON cannot say is refused by a `TypeError` that names its path.
+ * A value that is written: JSON, also of an interface or a class. Numbers are whole and within
+ * 2^53; what JSON cannot say is refused by a `TypeError` that names its path.
  */
 export type Writable = null | boolean | number | string | readonly Writable[] | object;
 
 /**
- * What a slot shows: the value to which a pointer leads, or how many elements or members that has.
+ * Names what a slot shows: the value to which a pointer leads, or how many elements or members that
+ * has.
  */
 export type Shown = Pointer | { readonly size: Pointer };
 
@@ -47,8 +48,8 @@ export type Shown = Pointer | { readonly size: Pointer };
 export type View = readonly Shown[];
 
 /**
- * What stands there: `[value]`, or `[]` where the pointer leads to nothing; of a size `[number]`,
- * or `[]` where there is no list and no object.
+ * The value that stands there: `[value]`, or `[]` where the pointer leads to nothing; of a size
+ * `[number]`, or `[]` where there is no list and no object.
  */
 export type Slot<T = Json> = readonly [value?: T];
 
@@ -85,9 +86,19 @@ export type ValueOf<D, S extends Shown> = S extends string
     : At<D, S>
   : number;
 
+/**
+ * A value that is shown. It is frozen, as deep as it goes: an application may keep it, and copies
+ * it to change it, as `[...cards].sort(..)`.
+ */
+export type Frozen<T> = unknown extends T
+  ? T
+  : T extends object
+    ? { readonly [K in keyof T]: Frozen<T[K]> }
+    : T;
+
 /** The types of a view's slots. */
 export type SlotsOf<D, V extends readonly Shown[]> = {
-  readonly [K in keyof V]: V[K] extends Shown ? Slot<ValueOf<D, V[K]>> : never;
+  readonly [K in keyof V]: V[K] extends Shown ? Slot<Frozen<ValueOf<D, V[K]>>> : never;
 };
 
 /** An operation of a JSON Patch (RFC 6902). */
@@ -101,25 +112,26 @@ export type Operation =
  * - `open`: the slots are those of the relay, but for what is on its way.
  * - `waiting`: the connection was lost, or could not be had; the next try comes after a while. The
  *   slots stay as they were.
- * - `closed`: by `close`, or since the relay refused the first view or what `begin` has.
+ * - `closed`: by `close`, since the relay refused the first view or what `begin` has, or since
+ *   there is no room at the address.
  */
 export type State = "connecting" | "open" | "waiting" | "closed";
 
 export interface Change<Slots = readonly Slot[]> {
   /**
-   * What is shown: what the relay showed, with the optimistic edits that wait laid over it. No
-   * later change writes to it.
+   * The slots that are shown: what the relay showed, with the optimistic edits that wait laid over
+   * it. It is frozen, and no later change writes to it.
    */
   readonly slots: Slots;
-  /** What the relay showed. */
+  /** The slots as the relay showed them. */
   readonly confirmed: Slots;
   /** The revision of `confirmed`. */
   readonly rev: number;
-  /** How many optimistic edits wait. */
+  /** The number of optimistic edits that wait. */
   readonly pending: number;
   /**
-   * What led to `confirmed` from the one before, with slot `k`'s value at `/k/0`; null where it
-   * came anew, or where it is as before.
+   * The patch that led to `confirmed` from the one before, with slot `k`'s value at `/k/0`; null
+   * where that came anew, or where it is as before.
    */
   readonly patch: readonly Operation[] | null;
 }
@@ -130,7 +142,7 @@ export interface TakenBack {
   readonly cause: Error;
 }
 
-/** Where edits that wait are kept beyond a page, as `localStorage` and `sessionStorage` do. */
+/** A store that keeps edits that wait beyond a page, as `localStorage` and `sessionStorage` do. */
 export interface Store {
   getItem(key: string): string | null;
   setItem(key: string, text: string): void;
@@ -141,7 +153,7 @@ export interface Options<
   V extends readonly Shown[] = readonly Shown[],
   Slots = readonly Slot<any>[],
 > {
-  /** What is to be shown, at most 16. */
+  /** The slots that are to be shown, at most 16. */
   view: readonly [...V];
   /**
    * The document that the room is to begin with. Each connection writes it first, before any edit
@@ -169,14 +181,14 @@ export interface Options<
    */
   onTakenBack?: (told: TakenBack) => void;
   /**
-   * What may wait for the connection while it is lost. `all`: every edit. `guarded`: only one with
-   * a `base`, or with a `test` in front; others are `Refused` at once, as `away`. `all` if nothing
-   * is said.
+   * The edits that may wait for the connection while it is lost. `all`: every edit. `guarded`: only
+   * one with a `base`, or with a `test` in front; others are `Refused` at once, as `away`. `all` if
+   * nothing is said.
    */
   queue?: "guarded" | "all";
   /**
-   * Where edits that were not sent yet are kept, so that the next page with the same key sends
-   * them. Nowhere, if nothing is said. If something else stands there, nothing is sent.
+   * The store in which edits that were not sent yet are kept, so that the next page with the same
+   * key sends them. None, if nothing is said. If something else stands there, nothing is sent.
    */
   storage?: Store;
   /** The key in `storage`, of one page at a time. The address, if nothing is said. */
@@ -189,11 +201,11 @@ export interface Options<
   /** The class of the sockets; the global one, if nothing is said. */
   WebSocket?: new (url: string) => unknown;
   /**
-   * How long the first try after a loss waits at most, in milliseconds; each further one waits up
-   * to twice as long. 200 if nothing is said.
+   * The milliseconds that the first try after a loss waits at most; each further one waits up to
+   * twice as long. 200 if nothing is said.
    */
   firstWait?: number;
-  /** How long a try waits at most, in milliseconds. 10,000 if nothing is said. */
+  /** The milliseconds that a try waits at most. 10,000 if nothing is said. */
   longestWait?: number;
   /**
    * After how many milliseconds without a message the relay is asked for one. 20,000 if nothing is
@@ -216,12 +228,12 @@ export interface EditOptions {
    * be kept beside a base that is used later.
    */
   epoch?: number | null;
-  /** Whether it shows at once. */
+  /** True if it shows at once. */
   optimistic?: boolean;
   /** `false` keeps it out of what `undo` takes back. */
   undo?: boolean;
   /**
-   * Whether it tests and raises a counter of this client, at the pointer that `connect` was given
+   * True if it tests and raises a counter of this client, at the pointer that `connect` was given
    * as `once`. Then it is sent again where its answer was lost, and is never done twice. It gives
    * its revision, or a later one where the answer was lost. One is on its way at a time: what was
    * asked for behind it waits. It has 62 operations of its own at most, and no `base`.
@@ -238,14 +250,14 @@ export type Draft<T> = T extends readonly (infer E)[]
 
 export interface ChangeOptions {
   /**
-   * What has to be as it was seen. `values`: what the function read, and each element that it
-   * addressed, by tests in front; by the revision, where they would be too many or too large.
-   * `base`: the whole document. `none`: nothing. `values` if nothing is said.
+   * The values that have to be as they were seen. `values`: what the function read, and each
+   * element that it addressed, by tests in front; by the revision, where they would be too many or
+   * too large. `base`: the whole document. `none`: nothing. `values` if nothing is said.
    */
   guard?: "values" | "base" | "none";
-  /** How often the function is called at most. 20 if nothing is said. */
+  /** The number of times that the function is called at most. 20 if nothing is said. */
   tries?: number;
-  /** Whether it shows at once. It does, if nothing is said. */
+  /** True if it shows at once. It does, if nothing is said. */
   optimistic?: boolean;
   /** `false` keeps it out of what `undo` takes back. */
   undo?: boolean;
@@ -256,15 +268,15 @@ export interface ChangeOptions {
 /** The elements of a list, told apart by a member, wherever they stand. */
 export interface Keyed<E> {
   /** The element with a key; undefined where there is none. */
-  get(key: Writable): E | undefined;
-  /** Where it stands; -1 where it does not. */
+  get(key: Writable): Frozen<E> | undefined;
+  /** The index at which it stands; -1 where it does not. */
   indexOf(key: Writable): number;
   /** Fails with `Refused`, as `missing`, where no element has the key; so do the others. */
   remove(key: Writable, options?: ChangeOptions): Promise<number>;
   /** In front of the element with another key; to the end, where that is null. */
   move(key: Writable, before: Writable | null, options?: ChangeOptions): Promise<number>;
   /** Puts in a new one, in front of the element with a key; at the end, where that is null. */
-  insert(value: E, before: Writable | null, options?: ChangeOptions): Promise<number>;
+  insert(value: E | Frozen<E>, before: Writable | null, options?: ChangeOptions): Promise<number>;
   /** Changes a draft of it. */
   change(
     key: Writable,
@@ -277,49 +289,53 @@ type ElementOf<T> = T extends readonly (infer E)[] ? E : any;
 
 export interface SetOptions extends EditOptions {
   /**
-   * Whether objects that are missing around the place are made, in the same patch. Then the edit
+   * True if objects that are missing around the place are made, in the same patch. Then the edit
    * has a base, and is made anew where others were faster.
    */
   parents?: boolean;
 }
 
 /**
- * What stands at a pointer that the view shows, by itself or as a part of another one: with the
- * view `["/cards"]` also `/cards/0`. Reading and writing throw a `RangeError` if the view does not
- * show it. An index names another element once somebody inserted or removed before it.
+ * The value at a pointer that the view shows, by itself or as a part of another one: with the view
+ * `["/cards"]` also `/cards/0`. Reading and writing throw a `RangeError` if the view does not show
+ * it. An index names another element once somebody inserted or removed before it.
  */
 export interface Place<T> {
-  /** What stands there; undefined where nothing does, or before the first slots. */
-  readonly value: T | undefined;
-  /** What stands there as the relay showed it. */
-  readonly confirmed: T | undefined;
+  /** The value that stands there; undefined where nothing does, or before the first slots. */
+  readonly value: Frozen<T> | undefined;
+  /** The value that stands there as the relay showed it. */
+  readonly confirmed: Frozen<T> | undefined;
   /** Tells of each other value. Gives its end. */
-  subscribe(listener: (value: T | undefined) => void): () => void;
+  subscribe(listener: (value: Frozen<T> | undefined) => void): () => void;
   /**
    * Writes another value, which shows at once: replaces what stands there, or adds a member, or an
    * element at the end, where nothing does. One value of a place is on its way at a time: of those
    * that are set meanwhile the newest is sent, and the others end as it does, unless something else
    * is asked for in between. Fails as `edit`, and throws before the first slots.
    */
-  set(value: T, options?: SetOptions): Promise<number>;
+  set(value: T | Frozen<T>, options?: SetOptions): Promise<number>;
   /**
    * Writes the value that `change` makes of the one that stands there, and does it again until
    * nobody was faster; where it makes `undefined`, nothing. Fails as `edit`; with `stale` after
    * that many `tries`, 20 if nothing is said.
    */
   update(
-    change: (value: T | undefined) => T | undefined,
+    change: (value: Frozen<T> | undefined) => T | Frozen<T> | undefined,
     options?: { tries?: number; undo?: boolean },
   ): Promise<number>;
   /** Adds elements to the end of a list. It is a `change`, as those below are. */
-  push(...values: ElementOf<T>[]): Promise<number>;
+  push(...values: (ElementOf<T> | Frozen<ElementOf<T>>)[]): Promise<number>;
   /**
    * Puts an element in front of the one that is shown at an index, or at the end, by the index
    * behind the last. Where that one has moved by then it is put in front of it there; it is
    * `Refused`, as `changed`, where it is gone. So are those below, which follow their elements by
    * their values.
    */
-  insert(at: number, value: ElementOf<T>, options?: ChangeOptions): Promise<number>;
+  insert(
+    at: number,
+    value: ElementOf<T> | Frozen<ElementOf<T>>,
+    options?: ChangeOptions,
+  ): Promise<number>;
   remove(at: number, options?: ChangeOptions): Promise<number>;
   /** Moves an element to where another one is shown. */
   move(from: number, to: number, options?: ChangeOptions): Promise<number>;
@@ -331,17 +347,17 @@ export interface Board<D = Json, V extends readonly Shown[] = readonly Shown[]> 
   /** The view whose slots these are. */
   readonly view: readonly Shown[];
   /**
-   * What is shown: what the relay showed, with the optimistic edits that wait laid over it. Null
-   * before the first snapshot.
+   * The slots that are shown: what the relay showed, with the optimistic edits that wait laid over
+   * it. Null before the first snapshot.
    */
   readonly slots: SlotsOf<D, V> | null;
-  /** What the relay showed. Null before the first snapshot. */
+  /** The slots as the relay showed them. Null before the first snapshot. */
   readonly confirmed: SlotsOf<D, V> | null;
   /** The revision of `confirmed`; null before the first snapshot. */
   readonly rev: number | null;
   /** The run of the relay of which it is; null before the first snapshot. */
   readonly epoch: number | null;
-  /** How many optimistic edits wait. */
+  /** The number of optimistic edits that wait. */
   readonly pending: number;
   readonly state: State;
   /**
@@ -352,8 +368,8 @@ export interface Board<D = Json, V extends readonly Shown[] = readonly Shown[]> 
   /** Tells a listener after each change. Gives its end. */
   subscribe(listener: (change: Change<SlotsOf<D, V>>) => void): () => void;
   /**
-   * What stands at a pointer. Equal pointers give the same place, as long as it is held or listened
-   * to.
+   * Returns what stands at a pointer. Equal pointers give the same place, as long as it is held or
+   * listened to.
    */
   at<P extends Shown>(shown: P): Place<ValueOf<D, P>>;
   /**
@@ -373,8 +389,9 @@ export interface Board<D = Json, V extends readonly Shown[] = readonly Shown[]> 
    *
    * Fails with `Refused`, where nothing changed; with `Unknown`, where the connection was lost
    * before the answer; with `Closed`; and with a `TypeError`, where a value is none that the relay
-   * takes. At most 31 requests are on their way at once; the others wait here, also for a
-   * connection, and are sent in order.
+   * takes, or an option has a name that is not known. A failure at which nobody looks is an
+   * unhandled rejection, but for one of which `onTakenBack` was told. At most 31 requests are on
+   * their way at once; the others wait here, also for a connection, and are sent in order.
    *
    * With `optimistic` it shows at once, as far as the slots tell what it does. A patch is done
    * whole or not at all: where an operation does not fit what is shown, nothing of it is. Where it
@@ -439,9 +456,9 @@ export interface Board<D = Json, V extends readonly Shown[] = readonly Shown[]> 
   undo(): Promise<number | null>;
   /** Does again what `undo` took back last, until another edit is made. */
   redo(): Promise<number | null>;
-  /** How many edits `undo` can take back. */
+  /** The number of edits that `undo` can take back. */
   readonly undoable: number;
-  /** How many edits `redo` can do again. */
+  /** The number of edits that `redo` can do again. */
   readonly redoable: number;
   /** Leaves the room, and does not come back. */
   close(): void;
@@ -449,7 +466,8 @@ export interface Board<D = Json, V extends readonly Shown[] = readonly Shown[]> 
 
 /**
  * Connects to a room, as `ws://127.0.0.1:8080/rooms/NAME`, and comes back to it whenever the
- * connection is lost. Fails with a `RangeError` where the name is none of a room.
+ * connection is lost. Fails with a `RangeError` where the name is none of a room, and with a
+ * `TypeError` where an option has a name that is not known, as each call does that takes options.
  *
  * `connect<Document>(url, { view })` types what `at` gives;
  * `connect<Document, typeof view>(url, { view })` the slots as well, of a
@@ -478,7 +496,7 @@ export interface Room<D = Json> {
    * else over another one.
    */
   view<V extends readonly Shown[]>(view: readonly [...V]): SharedBoard<D, V>;
-  /** How many connections the views take. */
+  /** The number of connections that the views take. */
   readonly connections: number;
   close(): void;
 }
@@ -493,22 +511,22 @@ export function room<D = Json>(
 ): Room<D>;
 
 /**
- * What is written of somebody: `session` names the session that wrote it, and `beat` counts its
- * renewals where the relay knows no wills.
+ * The entry that is written of somebody: `session` names the session that wrote it, and `beat`
+ * counts its renewals where the relay knows no wills.
  */
 export type Present<E extends object> = E & { readonly session: string; readonly beat?: number };
 
 export interface Presence<E extends object> {
   readonly id: string;
   /** The entries of all who are here, by their ids. What is no object is left out. */
-  readonly people: Readonly<Record<string, Present<E>>>;
+  readonly people: Readonly<Record<string, Frozen<Present<E>>>>;
   /**
-   * When the entry is written for the first time. Fails where the board is closed before, only
-   * watches, or does not show the pointer.
+   * Resolves when the entry is written for the first time. Fails where the board is closed before,
+   * only watches, or does not show the pointer.
    */
   readonly ready: Promise<void>;
   /** Tells who is here with each change. Gives its end. */
-  subscribe(listener: (people: Readonly<Record<string, Present<E>>>) => void): () => void;
+  subscribe(listener: (people: Presence<E>["people"]) => void): () => void;
   /**
    * Shows another entry of this client from now on; without a connection, once it is there again.
    * The promise need not be looked at.
@@ -548,8 +566,8 @@ export function inspected(
 ): new (url: string) => unknown;
 
 /**
- * What the slots of a view show when a patch is laid over them, as far as they tell it: of the
- * others each is as it was, and `known` is false. Fails where an operation is known not to fit.
+ * Returns what the slots of a view show when a patch is laid over them, as far as they tell it: of
+ * the others each is as it was, and `known` is false. Fails where an operation is known not to fit.
  */
 export function overlaid(
   view: readonly Shown[],
@@ -557,7 +575,11 @@ export function overlaid(
   patch: readonly Operation[],
 ): { slots: Slot[]; known: boolean[] };
 
-/** The relay refused a request, and nothing changed by it. */
+/**
+ * The relay refused a request, and nothing changed by it. The message says what to do. As the
+ * errors below, it is an instance of the class of its name in each copy of this package that a
+ * program has.
+ */
 export class Refused extends Error {
   constructor(reply: { fault: string; at?: number | null; rev?: number | null }, advice?: string);
   /**
@@ -590,7 +612,10 @@ export class Unknown extends Error {
 /** The board was closed before what was asked for was sent. */
 export class Closed extends Error {}
 
-/** No connection could be had; the client goes on trying. */
+/**
+ * No connection could be had; the client goes on trying. A status of 404 ends the board, if no
+ * connection was had before: the address is none of a room.
+ */
 export class HandshakeFailed extends Error {
   /** `refused` where something answers at the address, `unreachable` where nothing does. */
   readonly reason: "refused" | "unreachable";

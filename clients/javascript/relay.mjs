@@ -1,17 +1,69 @@
 // Made from src/ by build.mjs. What it is for: ../README.md; its types: relay.d.ts.
+// SPDX-License-Identifier: MIT OR Apache-2.0
+
+const adviceModule = (() => {
+// The advice for each word of a fault: the relay's (docs/PROTOCOL.md, "Messages"), and the client's
+// own. Every client says the same.
+
+/** @type {Record<string, string>} */
+const ADVICE = {
+  "too-long": "a request has at most 1,048,576 bytes: send it in parts",
+  "not-json": "it is no JSON, or nests more than 127 containers",
+  number: "numbers are whole and have 64 bits: scale a fraction, or send a text",
+  shape: "it lacks a member that it needs, or the relay is too old for it",
+  "too-many": "a patch has at most 64 operations, a view 16 slots: split it",
+  "unknown-op": "an operation is add, remove, replace, move, copy or test",
+  pointer: "a pointer is empty or begins with /; in a name ~1 is / and ~0 is ~",
+  missing: "nothing stands there: look again, or add what is around it first",
+  "not-index": "there is a list, which takes an index, or - for its end",
+  "past-end": "the list is shorter: look again, or add at its end, by -",
+  "no-container": "what is around it is no list and no object: write that first",
+  root: "the whole document is not removed: replace it by null",
+  "into-itself": "a value does not move into itself: move it elsewhere, or copy it",
+  "test-failed": "another value stands there: look again, and make the edit of that",
+  "too-deep": "a document has at most 64 levels: nest less",
+  "too-heavy": "it is more than the relay takes: split it, or remove something first",
+  exhausted: "the room has no revision left: go on in another room",
+  stale: "somebody edited since: look again, and make the edit of that",
+  future: "that revision is of another run of the relay: watch anew",
+  "read-only": "it only watches: connect again without that",
+  away: "there is no connection: try again once there is one, or guard the edit",
+  changed: "somebody changed that since: look again",
+};
+
+return { ADVICE };
+})();
 
 const errorsModule = (() => {
-// What a request can come to besides its answer.
+// The outcomes that a request can have besides its answer.
+const { ADVICE } = adviceModule;
+
+// The kind that an error is of, whichever copy of this module made it: a program may have several,
+// as one by `import` and one by `require`.
+const KIND = Symbol.for("@bolsteregret/relay: error");
+
+/** An error that is an instance of the class of its kind in each copy. */
+class Failure extends Error {
+  /** @param {any} value */
+  static [Symbol.hasInstance](value) {
+    if (!Object.hasOwn(this.prototype, KIND)) return super[Symbol.hasInstance](value);
+    return value?.[KIND] === /** @type {any} */ (this.prototype)[KIND];
+  }
+}
 
 /** The relay refused a request, and nothing changed by it. */
-class Refused extends Error {
+class Refused extends Failure {
   name = "Refused";
+
+  get [KIND]() {
+    return "Refused";
+  }
 
   /**
    * @param {{ fault: string, at?: number | null, rev?: number | null }} reply
    * @param {string} [advice] what to do
    */
-  constructor({ fault, at = null, rev = null }, advice = "") {
+  constructor({ fault, at = null, rev = null }, advice = ADVICE[fault] ?? "") {
     const place = at === null ? "" : ` at ${at}`;
     const room = rev === null ? "" : `, the room is at revision ${rev}`;
     super(fault + place + room + (advice && `: ${advice}`));
@@ -22,8 +74,12 @@ class Refused extends Error {
 }
 
 /** The answer was lost: the edit may have been done, or not; `rev` is the room's revision since. */
-class Unknown extends Error {
+class Unknown extends Failure {
   name = "Unknown";
+
+  get [KIND]() {
+    return "Unknown";
+  }
 
   /** @param {number | null} [rev] null where it may still be done */
   constructor(rev = null) {
@@ -34,20 +90,27 @@ class Unknown extends Error {
 }
 
 /** The board was closed, and what was asked for was not sent. */
-class Closed extends Error {
+class Closed extends Failure {
   name = "Closed";
   message = "the board is closed";
+
+  get [KIND]() {
+    return "Closed";
+  }
 }
 
-/** @type {Record<number, string>} */
-const ADVICE = {
-  404: ": an address ends with /rooms/NAME",
-  503: ": it is full (--sessions, --rooms), --closed, or stopping",
-};
+const FULL = "it is full (--sessions, --rooms), --closed, or stopping";
 
-/** No connection could be made. The client goes on trying. */
-class HandshakeFailed extends Error {
+/**
+ * No connection could be made. The client goes on trying, unless the first answer is a 404: then
+ * the address is none of a room.
+ */
+class HandshakeFailed extends Failure {
   name = "HandshakeFailed";
+
+  get [KIND]() {
+    return "HandshakeFailed";
+  }
 
   /**
    * @param {"refused" | "unreachable"} reason
@@ -63,13 +126,31 @@ class HandshakeFailed extends Error {
 
 /** @param {string} url @param {number | null} status */
 function refusal(url, status) {
-  const answer = status === null ? "" : `, with ${status}${ADVICE[status] ?? ""}`;
-  return `${url} refuses the connection${answer}`;
+  const refuses = `${url} refuses the connection`;
+  if (status === 404) return `${refuses}, with 404: ${wrongAddress(url) ?? NO_ROOMS}`;
+  if (status === 503) return `${refuses}, with 503: ${FULL}`;
+  if (status !== null) return `${refuses}, with ${status}`;
+  // A page of another origin is not told the status.
+  return `${refuses}: ${wrongAddress(url) ?? `${FULL}, or what answers is no relay`}`;
+}
+
+const NO_ROOMS = "what answers there has no rooms, or none to watch only";
+
+/**
+ * Tells what is wrong with an address, as far as it shows; null where nothing is.
+ * @param {string} url
+ */
+function wrongAddress(url) {
+  const { pathname, search } = new URL(url, globalThis.location?.href);
+  if (!/^\/rooms\/[\w-]+(\/watch)?$/.test(pathname)) {
+    return `a room is at /rooms/NAME, and this path is ${pathname}`;
+  }
+  return search === "" ? null : "leave out the `?` and what follows";
 }
 
 /** @param {string} url */
 function silence(url) {
-  return `nothing answers at ${url}: start the relay there, or connect to where it listens`;
+  return `nothing answers at ${url}: start the relay there, or check the address and the port`;
 }
 
 return { Closed, HandshakeFailed, Refused, Unknown };
@@ -81,7 +162,8 @@ const editModule = (() => {
 // one is done. So is one with a counter, which tests that and raises it (once.mjs).
 const { Closed, Refused, Unknown } = errorsModule;
 
-// How often an edit is sent at most: one that ends its connection each time has to come to an end.
+// The number of times that an edit is sent at most: one that ends its connection each time has to
+// come to an end.
 const SENDINGS = 5;
 
 /**
@@ -131,14 +213,14 @@ class Edit {
     this.#on = on;
   }
 
-  /** What is sent. */
+  /** The message that is sent. */
   get request() {
     const own = this.#refusal ? [] : this.#own.patch;
     const patch = [...(this.#counter?.raise ?? []), ...own];
     return { do: "edit", base: this.#base, patch }; // without a base JSON leaves that out
   }
 
-  /** What is kept of it while it waits, so that another board can send it. */
+  /** The part of it that is kept while it waits, so that another board can send it. */
   get kept() {
     const once = this.#counter ? true : undefined;
     return { patch: this.#own.patch, base: this.#base, epoch: this.#epoch, once };
@@ -148,13 +230,13 @@ class Edit {
     return this.#base !== undefined;
   }
 
-  /** Whether it does no harm when it is late: it has a base, or tests something first. */
+  /** True if it does no harm when it is late: it has a base, or tests something first. */
   get isGuarded() {
     return this.#hasBase || this.#own.patch[0]?.op === "test";
   }
 
   /**
-   * What has to be sent before it: nothing (null), a request, or `WAITS`.
+   * Returns what has to be sent before it: nothing (null), a request, or `WAITS`.
    * @param {Welcome} welcome
    */
   ahead(welcome) {
@@ -290,7 +372,7 @@ function index(token) {
 }
 
 /**
- * Whether one of two pointers leads to the other's value or into it.
+ * True if one of two pointers leads to the other's value or into it.
  * @param {string} one
  * @param {string} other
  */
@@ -299,7 +381,7 @@ function overlap(one, other) {
 }
 
 /**
- * Whether a path is another one, or leads into its value.
+ * True if a path is another one, or leads into its value.
  * @param {readonly string[]} path
  * @param {readonly string[]} start
  */
@@ -369,7 +451,7 @@ function wrong(path, words) {
 }
 
 /**
- * What a text says; null where it is no JSON.
+ * The value that a text says; null where it is no JSON.
  * @param {string} text
  * @returns {any}
  */
@@ -382,7 +464,24 @@ function parsed(text) {
 }
 
 /**
- * Whether a value has members, and so is no list.
+ * The value itself, to which nobody can write from then on. What is frozen already is so as deep as
+ * it goes, so of a value that has new parts only those cost anything.
+ * @template T
+ * @param {T} value
+ * @returns {T}
+ */
+function frozen(value) {
+  if (typeof value !== "object" || value === null || Object.isFrozen(value)) return value;
+  Object.freeze(value);
+  const isList = Array.isArray(value);
+  for (const part of isList ? value : Object.values(value)) {
+    if (typeof part === "object") frozen(part);
+  }
+  return value;
+}
+
+/**
+ * True if a value has members, and so is no list.
  * @param {unknown} value
  * @returns {value is Record<string, any>}
  */
@@ -391,7 +490,7 @@ function isObject(value) {
 }
 
 /**
- * Whether two values are equal as RFC 6902, section 4.6, says.
+ * True if two values are equal as RFC 6902, section 4.6, says.
  * @param {Json} one
  * @param {Json} other
  * @returns {boolean}
@@ -410,7 +509,7 @@ function same(one, other) {
   );
 }
 
-return { DEEPEST, checked, isObject, parsed, same };
+return { DEEPEST, checked, frozen, isObject, parsed, same };
 })();
 
 const patchModule = (() => {
@@ -439,7 +538,7 @@ class Owned {
   writable(part) {
     if (typeof part !== "object" || part === null) throw new Misfit();
     if (this.#made.has(part)) return part;
-    const copy = Array.isArray(part) ? part.slice() : { ...part };
+    const copy = Array.isArray(part) ? [...part] : { ...part }; // of a frozen list `slice` is slow
     this.#made.add(copy);
     return copy;
   }
@@ -452,7 +551,14 @@ class Owned {
    */
   share(part) {
     if (!this.#made.delete(part)) return;
+    Object.freeze(part);
     for (const inner of Object.values(part)) this.share(inner);
+  }
+
+  /** Nobody writes to what the patch made any more. */
+  freeze() {
+    for (const part of this.#made) Object.freeze(part);
+    this.#made.clear();
   }
 }
 
@@ -532,12 +638,12 @@ return { Misfit, Owned, added, checkMove, found, has, removed, replaced };
 })();
 
 const knownModule = (() => {
-// What a client knows of the document by its slots, and of the documents to which its own patches
+// A client's knowledge of the document by its slots, and of the documents to which its own patches
 // lead: some values are known, some places are known to be empty, and of the rest nothing is known.
 // What an operation means to a slot (docs/PROTOCOL.md, "What a change means to a slot") follows:
 // the operation is done on what is known, and the slots are read again.
 const { index, tokens } = pointerModule;
-const { same } = jsonModule;
+const { frozen, same } = jsonModule;
 const { Misfit, Owned, added, checkMove, has, removed, replaced } = patchModule;
 
 /**
@@ -565,7 +671,7 @@ function pathOf(shown) {
 }
 
 /**
- * What slots tell of their document.
+ * Returns what slots tell of their document.
  * @param {readonly Shown[]} view
  * @param {readonly Slot[]} slots
  */
@@ -628,7 +734,7 @@ function laid(whole, path, change) {
 }
 
 /**
- * Whether a part is a list, or null where that is not known.
+ * True if a part is a list, or null where that is not known.
  * @param {Part} part
  * @returns {boolean | null}
  */
@@ -641,7 +747,7 @@ function isList(part) {
 }
 
 /**
- * Whether a part is known to be there. A container of which only absent children are known may be
+ * True if a part is known to be there. A container of which only absent children are known may be
  * absent itself.
  * @param {Part} part
  * @returns {boolean}
@@ -654,7 +760,7 @@ function isThere(part) {
 }
 
 /**
- * Whether a part is known to have more behind an index, if it is a list.
+ * True if a part is known to have more behind an index, if it is a list.
  * @param {Part} part
  * @param {number} at
  */
@@ -684,7 +790,7 @@ function placeOf(whole, path) {
 }
 
 /**
- * What is known after one operation. Fails with `Misfit` where it is known to be refused.
+ * Returns what is known after one operation. Fails with `Misfit` where it is known to be refused.
  * @param {Part} whole
  * @param {Operation} operation
  */
@@ -692,10 +798,14 @@ function after(whole, operation) {
   return afterAll(whole, [operation]);
 }
 
-/** @param {Part} whole @param {readonly Operation[]} patch */
+/**
+ * The same after a patch. Nobody can write to the values that are new.
+ * @param {Part} whole @param {readonly Operation[]} patch
+ */
 function afterAll(whole, patch) {
   const draft = new Draft(whole);
   for (const operation of patch) draft.do(operation);
+  draft.freeze();
   return draft.whole;
 }
 
@@ -710,8 +820,8 @@ function applied(value, patch) {
 }
 
 /**
- * What is known while a patch is done, operation by operation, on values that the draft alone has:
- * so it copies each container once.
+ * Holds what is known while a patch is done, operation by operation, on values that the draft alone
+ * has: so it copies each container once.
  */
 class Draft {
   #owned = new Owned();
@@ -742,11 +852,11 @@ class Draft {
     const path = tokens(operation.path);
     switch (operation.op) {
       case "add":
-        return this.#put(path, known(operation.value), puts);
+        return this.#put(path, known(frozen(operation.value)), puts);
       case "remove":
         return this.#take(path);
       case "replace":
-        this.whole = exchanged(this.whole, path, known(operation.value), this.#owned);
+        this.whole = exchanged(this.whole, path, known(frozen(operation.value)), this.#owned);
         return;
       case "test":
         return tested(this.whole, path, operation.value);
@@ -757,6 +867,11 @@ class Draft {
       default:
         throw new TypeError(`no operation: ${/** @type {any} */ (operation).op}`);
     }
+  }
+
+  /** The patch has ended. */
+  freeze() {
+    this.#owned.freeze();
   }
 
   /** @param {readonly string[]} path @param {Part} part @param {() => void} puts */
@@ -913,10 +1028,12 @@ function dropped(holder, token) {
  * @returns {S[]}
  */
 function slotsOf(whole, view, before) {
-  return view.map((shown, k) => {
+  const slots = view.map((shown, k) => {
     const slot = slotOf(whole, shown);
-    return /** @type {any} */ (slot === null || equal(slot, before[k]) ? before[k] : slot);
+    const isKept = slot === null || equal(slot, before[k]);
+    return /** @type {any} */ (isKept ? before[k] : Object.freeze(slot));
   });
+  return /** @type {S[]} */ (Object.freeze(slots));
 }
 
 /** @param {Slot} one @param {Slot} other */
@@ -925,7 +1042,7 @@ function equal(one, other) {
 }
 
 /**
- * What one slot shows; null where that is not known.
+ * Returns what one slot shows; null where that is not known.
  * @param {Part} whole
  * @param {Shown} shown
  * @returns {Slot | null}
@@ -967,7 +1084,7 @@ const followerModule = (() => {
 // (docs/PROTOCOL.md, "What a client does").
 const { Closed, Refused } = errorsModule;
 const { applied } = knownModule;
-const { checked } = jsonModule;
+const { checked, frozen } = jsonModule;
 
 /**
  * @typedef {import("./link.mjs").Link} Link
@@ -1057,13 +1174,12 @@ class Follower {
   told(message) {
     if (message.kind === "patch") this.#follow(message);
     else if (Array.isArray(message.view) && message.view.length === this.#taken?.view.length) {
-      this.#take(message.rev, message.view, null);
+      this.#take(message.rev, frozen(message.view), null);
     } else this.astray();
   }
 
   /**
-   * What is held may be wrong: the slots are asked for anew, by a connection that has nothing to
-   * resume.
+   * Asks for the slots anew, by a connection that has nothing to resume: what is held may be wrong.
    */
   astray() {
     this.#held = { ...this.#held, number: -1 };
@@ -1146,7 +1262,7 @@ return { Follower };
 })();
 
 const historyModule = (() => {
-// What this client did and can take back, and what it took back and can do again.
+// The edits that this client did and can take back, and those that it took back and can do again.
 
 /** @typedef {import("./inverse.mjs").Inverse} Inverse */
 /** @typedef {"edit" | "undo" | "redo"} Role */
@@ -1169,7 +1285,7 @@ class History {
   }
 
   /**
-   * What takes back an edit that was done.
+   * Records what takes back an edit that was done.
    * @param {Role} role Why it was made.
    * @param {Inverse} inverse
    */
@@ -1198,8 +1314,8 @@ return { History };
 })();
 
 const inverseModule = (() => {
-// What takes a patch back, as far as the slots tell: each operation backwards, behind tests that
-// nobody changed since what it did.
+// Takes a patch back, as far as the slots tell: each operation backwards, behind tests that nobody
+// changed since what it did.
 const { spelled, startsWith, tokens } = pointerModule;
 const { Draft, placeOf, read } = knownModule;
 const { Misfit } = patchModule;
@@ -1235,7 +1351,7 @@ function inverse(whole, patch) {
 }
 
 /**
- * Whether an inverse can be done, and puts no member where one may stand.
+ * True if an inverse can be done, and puts no member where one may stand.
  * @param {Part} whole What is known before it.
  * @param {readonly Operation[]} patch
  */
@@ -1265,7 +1381,7 @@ function newMembers(whole, patch) {
 }
 
 /**
- * What takes an operation back, which is done.
+ * The operations that take back an operation that is done.
  * @param {Draft} draft
  * @param {Operation} operation
  * @returns {Operation[]}
@@ -1339,7 +1455,8 @@ function removedBack(draft, path) {
   return place.list ? [...neighbours(draft, place), add] : [add];
 }
 
-// Where an element was removed from a list: between the same two, or in a list that is empty.
+// The place at which an element was removed from a list: between the same two, or in a list that is
+// empty.
 /**
  * @param {Draft} draft
  * @param {{ path: readonly string[], holder: Part | null, at: number | null }} place
@@ -1395,7 +1512,7 @@ return { fits, inverse };
 })();
 
 const lengthModule = (() => {
-// How long a text is that is sent, as the relay counts it.
+// The length of a text that is sent, as the relay counts it.
 
 // Bytes of UTF-8. A longer text ends its connection without an answer, each time that it is sent.
 const LONGEST = 1_056_768;
@@ -1413,19 +1530,56 @@ return { endsConnection };
 })();
 
 const handshakeModule = (() => {
-// Why a handshake failed. A WebSocket does not say it, so the same address is asked by HTTP.
+// Finds why a handshake failed. A WebSocket does not say it, so the same address is asked by HTTP.
+//
+// For each question that fails Chromium writes a line to the console, beside the one that it writes
+// for the socket. So in a browser an answer holds for a while, and most tries write one line.
 const { HandshakeFailed } = errorsModule;
 
-// What the relay answers a request that is no handshake, where the room's name is good.
+// The status by which the relay answers a request that is no handshake, where the room's name is
+// good.
 const NO_HANDSHAKE = 400;
 const NO_PLACE = 503;
 const LONGEST = 2000;
 
+// For how long an answer holds in a browser, in milliseconds.
+const HOLDS = 30_000;
+
+class Failures {
+  #url;
+  /** @type {HandshakeFailed | null} */
+  #last = null;
+  #asked = 0; // when
+
+  /** @param {string} url of the room, as `ws://HOST/rooms/NAME` */
+  constructor(url) {
+    this.#url = url;
+  }
+
+  /**
+   * Tells why the newest handshake failed.
+   * @param {{ message?: string } | null} event of the socket
+   */
+  async newest(event) {
+    const isKept = globalThis.location !== undefined && Date.now() - this.#asked < HOLDS;
+    if (this.#last === null || !isKept) {
+      this.#asked = Date.now();
+      this.#last = await failure(this.#url, event);
+    }
+    return this.#last;
+  }
+
+  /** A handshake succeeded. */
+  end() {
+    this.#last = null;
+  }
+}
+
 /**
  * `refused` with a status where the platform tells one; a page of another origin is only told that
  * something answers.
- * @param {string} url of the room, as `ws://HOST/rooms/NAME`
- * @param {{ message?: string } | null} event of the socket
+ * @param {string} url
+ * @param {{ message?: string } | null} event
  */
 async function failure(url, event) {
   const told = /\b[45]\d\d\b/.exec(event?.message ?? "");
@@ -1435,10 +1589,10 @@ async function failure(url, event) {
   try {
     const { location } = globalThis;
     const address = new URL(url.replace(/^ws/, "http"), location?.href);
-    const mode = location && location.origin !== address.origin ? "no-cors" : "cors";
+    const isForeign = location !== undefined && location.origin !== address.origin;
     const { status } = await fetch(address, {
-      mode,
-      redirect: "manual",
+      // Chromium asks nothing of another origin by `no-cors` unless it may follow.
+      ...(isForeign ? { mode: "no-cors", redirect: "follow" } : { redirect: "manual" }),
       cache: "no-store",
       signal: ending.signal,
     });
@@ -1451,18 +1605,34 @@ async function failure(url, event) {
 }
 
 /**
- * Fails with a `RangeError` where the last part of a path is no room's name (docs/PROTOCOL.md,
- * "Scripts").
+ * Fails with a `RangeError` where a path does not end with a room's name (docs/PROTOCOL.md,
+ * "Scripts"). What stands before it is a proxy's concern.
  * @param {string} url
  */
 function checkRoom(url) {
-  const name = new URL(url, globalThis.location?.href).pathname.split("/").at(-1) ?? "";
+  const { pathname } = parsed(url);
+  const [rooms, name = ""] = pathname.split("/").slice(-2);
+  if (rooms !== "rooms") {
+    const isWatch = /\/rooms\/[\w-]+\/watch$/.test(pathname);
+    if (isWatch) throw new RangeError("leave out `/watch`, and use the option `readOnly`");
+    throw new RangeError(`an address ends with /rooms/NAME, and this path is ${pathname}`);
+  }
   if (!/^[\w-]{1,64}$/.test(name)) {
     throw new RangeError(`"${name}" is no room's name: 1 to 64 ASCII letters, digits, "-" and "_"`);
   }
 }
 
-return { checkRoom, failure };
+/** @param {string} url */
+function parsed(url) {
+  try {
+    return new URL(url, globalThis.location?.href);
+  } catch {
+    const example = "ws://127.0.0.1:8080/rooms/NAME";
+    throw new TypeError(`${JSON.stringify(url)} is no address of a room, as ${example}`);
+  }
+}
+
+return { Failures, checkRoom };
 })();
 
 const idModule = (() => {
@@ -1491,7 +1661,7 @@ const { Refused } = errorsModule;
 const { newId } = idModule;
 const { spelled, tokens } = pointerModule;
 
-/** What is ahead of an edit that has to wait. */
+/** Stands ahead of an edit that has to wait. */
 const WAITS = Symbol("waits");
 
 /**
@@ -1518,7 +1688,7 @@ class Counter {
   }
 
   /**
-   * What has to be sent before an edit: nothing (null), a request, or `WAITS`.
+   * Returns what has to be sent before an edit: nothing (null), a request, or `WAITS`.
    * @param {Edit} edit
    * @param {Welcome} welcome of the connection
    */
@@ -1566,7 +1736,7 @@ class Counter {
   }
 
   /**
-   * What the counter is after an edit is not known: the next edit has another one.
+   * The counter after an edit is not known: the next edit has another one.
    * @param {Edit} edit
    */
   lost(edit) {
@@ -1582,7 +1752,7 @@ const linkModule = (() => {
 // order.
 const { HandshakeFailed } = errorsModule;
 const { endsConnection } = lengthModule;
-const { failure } = handshakeModule;
+const { Failures } = handshakeModule;
 const { parsed } = jsonModule;
 const { overlap } = pointerModule;
 const { WAITS } = onceModule;
@@ -1595,13 +1765,16 @@ const ON_THE_WAY = 31;
 // answered meanwhile comes behind it.
 const SNAPSHOT = 6;
 
-// How often patience is doubled at most, since connections were given up.
+// The number of times that patience is doubled at most, since connections were given up.
 const DOUBLINGS = 3;
+
+// As what answers says that there is no room at the address.
+const NO_ROOM = 404;
 
 // As the relay refuses a text that it still reads.
 const TOO_LONG = { kind: "refused", fault: "too-long", at: null };
 
-// What answers a request. The welcome does not.
+// The messages that answer a request. The welcome does not.
 const REPLIES = ["done", "refused", "watching", "resumed", "willing"];
 
 /**
@@ -1626,6 +1799,7 @@ const REPLIES = ["done", "refused", "watching", "resumed", "willing"];
  *   told: (message: any) => void,
  *   astray: () => void,
  *   lost: (cause: Error | null) => void,
+ *   refused: (cause: Error) => void,
  *   connecting: () => void,
  *   waiting: (asked: Asked[]) => void,
  * }} Hearer
@@ -1660,6 +1834,8 @@ class Link {
   /** @type {ReturnType<typeof setTimeout> | undefined} */
   #patience;
   #closed = false;
+  #failed;
+  #wasEntered = false; // by any connection
   /** @type {Asked | undefined} */
   will; // that the relay took last: it goes with its connection, so the next one leaves it again
 
@@ -1668,6 +1844,7 @@ class Link {
     this.#url = url;
     this.#options = options;
     this.#on = on;
+    this.#failed = new Failures(url);
   }
 
   /** Of this connection; null while there is none. */
@@ -1770,12 +1947,14 @@ class Link {
     if (event instanceof HandshakeFailed) return this.#wait(event);
     // Not within the promise, so that what an application's function throws is reported as it is
     // elsewhere.
-    failure(this.#url, event).then((cause) => queueMicrotask(() => this.#wait(cause)));
+    this.#failed.newest(event).then((cause) => queueMicrotask(() => this.#wait(cause)));
   }
 
-  /** @param {Error | null} cause */
+  /** @param {HandshakeFailed | null} cause */
   #wait(cause) {
     if (this.#closed) return;
+    // Once a room was entered there, the answer may be that of a proxy that is being set up anew.
+    if (cause?.status === NO_ROOM && !this.#wasEntered) return this.#on.refused(cause);
     const { firstWait, longestWait } = this.#options;
     const wait = Math.min(firstWait * 2 ** this.#failures, longestWait) * (0.5 + Math.random() / 2);
     this.#failures += 1;
@@ -1884,7 +2063,9 @@ class Link {
   /** @param {Welcome} welcome */
   #enter(welcome) {
     this.#welcome = welcome;
+    this.#wasEntered = true;
     this.#failures = 0;
+    this.#failed.end();
     clearTimeout(this.#patience);
     if (this.will) this.askFirst(this.will);
     this.#on.entered(welcome);
@@ -1971,8 +2152,8 @@ return { Listeners };
 })();
 
 const touchModule = (() => {
-// Which changes surely touch a slot (docs/PROTOCOL.md, "What a change means to a slot"): of those
-// the relay tells a watcher.
+// Finds changes that surely touch a slot (docs/PROTOCOL.md, "What a change means to a slot"): of
+// those the relay tells a watcher.
 const { index, startsWith, tokens } = pointerModule;
 const { Draft, goesOn, pathOf, placeOf, read } = knownModule;
 
@@ -1990,7 +2171,7 @@ const { Draft, goesOn, pathOf, placeOf, read } = knownModule;
  */
 
 /**
- * Whether a patch surely touches a slot of a view. Fails with `Misfit` where it is known to be
+ * True if a patch surely touches a slot of a view. Fails with `Misfit` where it is known to be
  * refused.
  * @param {Part} whole
  * @param {readonly Operation[]} patch
@@ -2017,7 +2198,7 @@ function changed(draft, operation) {
   return to.length === 0 || mayStay(from[0], to[0]) ? [] : [from[0], to[0]];
 }
 
-// Where something is taken away or exchanged.
+// The places at which something is taken away or exchanged.
 /** @param {Part} whole @param {Operation} operation @returns {Origin[]} */
 function fromPlaces(whole, operation) {
   if (operation.op === "remove" || operation.op === "replace") {
@@ -2026,15 +2207,15 @@ function fromPlaces(whole, operation) {
   return operation.op === "move" ? [{ ...placeOf(whole, tokens(operation.from)), set: false }] : [];
 }
 
-// Where something is added. Of a member that may be there already it is not known whether it is
-// merely set: then no size surely changes.
+// The place at which something is added. Of a member that may be there already it is not known
+// whether it is merely set: then no size surely changes.
 /** @param {Part} whole @param {readonly string[]} path @returns {Place} */
 function target(whole, path) {
   const place = placeOf(whole, path);
   return { ...place, set: place.list !== true && read(whole, path).is !== "absent" };
 }
 
-// Whether a move may lead to its own place, and so change nothing: the last element of a list to
+// True if a move may lead to its own place, and so change nothing: the last element of a list to
 // the end of it, which may not be known.
 /** @param {Origin} from @param {Place} to */
 function mayStay({ path, holder, at }, to) {
@@ -2096,7 +2277,7 @@ class Overlay {
   /** @type {{ slots: readonly Slot[] | null, whole: Part } | null} */
   #base = null; // what the slots that the relay showed tell, made once for each
 
-  /** How many edits are laid over. */
+  /** The number of edits that are laid over. */
   get pending() {
     return this.#edits.filter(({ optimistic }) => optimistic).length;
   }
@@ -2164,7 +2345,7 @@ class Overlay {
     return /** @type {{ whole: Part }} */ (this.#base).whole;
   }
 
-  // Whether a patch will come for an edit that was done: of one that only might touch a slot none
+  // True if a patch will come for an edit that was done: of one that only might touch a slot none
   // may ever come.
   /** @param {Unconfirmed} edit @param {Held} held */
   #willShow(edit, held) {
@@ -2212,8 +2393,8 @@ function folded(whole, edits) {
   }, whole);
 }
 
-// What was laid over the same once is not made again, so slots stay the same values where nothing
-// changed.
+// An edit that was laid over the same once is not laid again, so slots stay the same values where
+// nothing changed.
 /**
  * @param {{ whole: Part, shown: readonly Slot[] }} below
  * @param {Unconfirmed} edit
@@ -2232,13 +2413,13 @@ return { Overlay };
 })();
 
 const elementsModule = (() => {
-// What is done to the elements of one list: by their places, or by a member that tells them apart.
+// Operations on the elements of one list: by their places, or by a member that tells them apart.
 const { Refused } = errorsModule;
 const { isObject, same } = jsonModule;
 
 /**
- * Where an element is by now: the one that stood at a place when it was asked for, as far as its
- * value tells. The nearest one, if there are several.
+ * Finds where an element is by now: the one that stood at a place when it was asked for, as far as
+ * its value tells. The nearest one, if there are several.
  * @param {() => unknown} list what is shown
  * @param {number} at
  */
@@ -2277,7 +2458,7 @@ class Keyed {
   }
 
   /**
-   * Where the element with a key is; -1 where it is not.
+   * The index of the element with a key; -1 where there is none.
    * @param {any} key
    */
   indexOf(key) {
@@ -2346,11 +2527,87 @@ class Keyed {
 return { Keyed, followed, shown };
 })();
 
+const optionsModule = (() => {
+// The options that an application gives a call, checked before anything is done with it: a name
+// that nobody reads would change nothing, and nobody would hear of it.
+
+/**
+ * Fails with a `TypeError` where the call has no such option, and names the nearest one.
+ * @param {string} call
+ * @param {unknown} options
+ * @param {readonly string[]} names
+ * @param {readonly string[]} [own] what the client itself gives as well
+ */
+function checkOptions(call, options, names, own = []) {
+  if (typeof options !== "object" || options === null || Array.isArray(options)) {
+    throw new TypeError(`the options of \`${call}\` are an object, not ${shown(options)}`);
+  }
+  const unknown = Object.keys(options).find((name) => ![...names, ...own].includes(name));
+  if (unknown === undefined) return;
+  const byDistance = (/** @type {string} */ one, /** @type {string} */ other) =>
+    distance(unknown, one) - distance(unknown, other);
+  const [nearest] = [...names].sort(byDistance);
+  const isNear = distance(unknown, nearest) <= Math.max(2, unknown.length / 3);
+  const advice = isNear ? `is "${nearest}" meant?` : `it has ${names.join(", ")}`;
+  throw new TypeError(`\`${call}\` has no option "${unknown}": ${advice}`);
+}
+
+/**
+ * @param {string} call
+ * @param {unknown} patch
+ */
+function checkPatch(call, patch) {
+  if (Array.isArray(patch)) return;
+  const example = '[{ op: "add", path: "/cards/-", value: "milk" }]';
+  throw new TypeError(`\`${call}\` takes a list of operations, as ${example}, not ${shown(patch)}`);
+}
+
+/** @param {string} call @param {unknown} view */
+function checkView(call, view) {
+  if (Array.isArray(view)) return;
+  const not = view === undefined ? "" : `, not ${shown(view)}`;
+  throw new TypeError(`\`${call}\` takes a view, a list of pointers as ["/cards"]${not}`);
+}
+
+/** @param {string} call @param {unknown} make */
+function checkFunction(call, make) {
+  if (typeof make === "function") return;
+  throw new TypeError(`\`${call}\` takes a function, not ${shown(make)}`);
+}
+
+/** @param {unknown} value */
+function shown(value) {
+  if (typeof value !== "object" || value === null) return String(value);
+  return Array.isArray(value) ? "a list" : "an object";
+}
+
+/**
+ * The number of letters that are to be put in, taken out or exchanged.
+ * @param {string} one
+ * @param {string} other
+ */
+function distance(one, other) {
+  let row = Array.from({ length: other.length + 1 }, (_, k) => k);
+  for (const [at, letter] of [...one.toLowerCase()].entries()) {
+    const next = [at + 1];
+    for (const [k, wanted] of [...other.toLowerCase()].entries()) {
+      const exchanged = row[k] + Number(letter !== wanted);
+      next.push(Math.min(exchanged, row[k + 1] + 1, next[k] + 1));
+    }
+    row = next;
+  }
+  return row[other.length];
+}
+
+return { checkFunction, checkOptions, checkPatch, checkView };
+})();
+
 const placeModule = (() => {
 // A value that a view shows, by itself or as a part of another one: who hears of it, and changes of
 // it.
 const { Closed, Refused } = errorsModule;
 const { Keyed, followed, shown } = elementsModule;
+const { checkFunction, checkOptions } = optionsModule;
 const { spelled, startsWith, tokens } = pointerModule;
 const { has } = patchModule;
 const { same } = jsonModule;
@@ -2364,11 +2621,13 @@ const { same } = jsonModule;
  * subscribe: Subscribe }} Source
  */
 
-// How often `update` tries, if nothing is said.
+const SET = ["parents", "base", "epoch", "optimistic", "undo", "once"];
+
+// The number of times that `update` tries, if nothing is said.
 const TRIES = 20;
 
-// How long the second try waits at most, in milliseconds; each further one up to twice as long, so
-// that many who count take turns.
+// The milliseconds that the second try waits at most; each further one up to twice as long, so that
+// many who count take turns.
 const PAUSE = 10;
 const LONGEST_PAUSE = 500;
 
@@ -2391,12 +2650,12 @@ class Place {
     this.subscribe = this.subscribe.bind(this);
   }
 
-  /** What stands there; undefined where nothing does, or before the first slots. */
+  /** The value that stands there; undefined where nothing does, or before the first slots. */
   get value() {
     return this.#slot(this.#source.slots)[0];
   }
 
-  /** What stands there as the relay showed it, without edits that wait. */
+  /** The value that stands there as the relay showed it, without edits that wait. */
   get confirmed() {
     return this.#slot(this.#source.confirmed)[0];
   }
@@ -2419,6 +2678,7 @@ class Place {
    * @returns {Promise<number>}
    */
   set(value, asked = {}) {
+    checkOptions("set", asked, SET);
     const { parents = false, ...options } = asked;
     const { slots } = this.#source;
     if (slots === null) throw new Error("the slots are not there yet");
@@ -2443,7 +2703,7 @@ class Place {
     return this.#compareAndSet(make, TRIES, options);
   }
 
-  // How many containers around it are not there, as far as the view shows them.
+  // The number of containers around it that are not there, as far as the view shows them.
   /** @param {Slots} slots */
   #missing(slots) {
     const cover = this.#cover();
@@ -2459,7 +2719,10 @@ class Place {
    * @param {{ tries?: number, undo?: boolean }} options
    * @returns {Promise<number>}
    */
-  update(change, { tries = TRIES, undo = true } = {}) {
+  update(change, options = {}) {
+    checkFunction("update", change);
+    checkOptions("update", options, ["tries", "undo"]);
+    const { tries = TRIES, undo = true } = options;
     const make = () => {
       const slot = this.#slot(this.#source.confirmed);
       const value = change(slot[0]);
@@ -2584,27 +2847,31 @@ function part(slot, token) {
  * @returns {Promise<number>}
  */
 function compareAndSet(board, tries, make, edit) {
-  return anew(board, tries, ["stale"], async () => {
+  return anew(board, tries, ["stale"], async (sends) => {
     const patch = make();
+    sends();
     return patch === null ? board.rev : edit(patch, { base: board.rev, epoch: board.epoch });
   });
 }
 
 /**
- * Tries again as long as it is refused by one of these faults, on what is shown by then.
+ * Tries again as long as it is refused by one of these faults, on what is shown by then. What this
+ * client refuses before it sends anything, as a key that no element has, is tried once more: from
+ * then on the slots are of the room's revision, and would show the same.
  * @param {any} board
  * @param {number} tries
  * @param {readonly string[]} faults
- * @param {() => Promise<number>} attempt
+ * @param {(sends: () => void) => Promise<number>} attempt tells when it begins to send
  */
 async function anew(board, tries, faults, attempt) {
   for (let tried = 1; ; tried += 1) {
     if (board.state === "closed") throw new Closed();
+    let isSent = false;
     try {
-      return await attempt();
+      return await attempt(() => void (isSent = true));
     } catch (error) {
       const isOutdated = error instanceof Refused && faults.includes(error.fault);
-      if (!isOutdated || tried >= tries) throw error;
+      if (!isOutdated || tried >= tries || (tried > 1 && !isSent)) throw error;
     }
     if (tried > 1) await pause(tried);
     // An edit elsewhere leaves the slots' revision behind the room's: only slots that come anew are
@@ -2688,7 +2955,7 @@ class Queue {
   }
 
   /**
-   * Whether an edit may wait for the connection to come back.
+   * True if an edit may wait for the connection to come back.
    * @param {Edit} edit
    */
   takes(edit) {
@@ -2704,8 +2971,8 @@ class Queue {
   }
 
   /**
-   * What an earlier page left, in its order. What no page leaves, as another program may, is
-   * nothing.
+   * The edits that an earlier page left, in its order. What no page leaves, as another program may,
+   * is nothing.
    * @returns {Kept[]}
    */
   left() {
@@ -2718,10 +2985,11 @@ return { Queue };
 })();
 
 const willModule = (() => {
-// What the relay is to do when this client's session ends (docs/PROTOCOL.md, "Wills"). A will goes
-// with its session, so each connection leaves it again. A session has one: what the parts of a page
-// leave is put together.
+// A will: what the relay is to do when this client's session ends (docs/PROTOCOL.md, "Wills"). It
+// goes with its session, so each connection leaves it again. A session has one: what the parts of a
+// page leave is put together.
 const { Closed, Refused } = errorsModule;
+const { checkPatch } = optionsModule;
 const { checked } = jsonModule;
 
 /** @typedef {import("../relay.js").Operation} Operation */
@@ -2739,6 +3007,7 @@ function wills(link) {
    */
   return (patch, of) =>
     new Promise((resolve, reject) => {
+      checkPatch("will", patch);
       const before = parts;
       const own = (parts = new Map(before).set(of, checked(patch)));
       /** @type {Asked} */
@@ -2835,12 +3104,12 @@ class Node {
     return this.#kids !== null || this.isPartial || isObject;
   }
 
-  /** Whether it was looked into, so that something in it may be another one. */
+  /** True if it was looked into, so that something in it may be another one. */
   get isOpen() {
     return this.#kids !== null;
   }
 
-  /** What stood there. */
+  /** The value that stood there. */
   get seen() {
     return this.part.is === "value" ? this.part.value : undefined;
   }
@@ -2854,13 +3123,13 @@ class Node {
     this.#kids = kids;
   }
 
-  /** What stood in it; nothing, if it was put in. */
+  /** The parts that stood in it; none, if it was put in. */
   get before() {
     return this.#before ?? (this.isList ? [] : new Map());
   }
 
   /**
-   * What stood at a name.
+   * The part that stood at a name.
    * @param {string} name
    */
   memberBefore(name) {
@@ -2906,7 +3175,7 @@ class Node {
   }
 
   /**
-   * What it is now, as JSON.
+   * The value that it is now, as JSON.
    * @returns {any}
    */
   get value() {
@@ -2963,7 +3232,7 @@ return { Node, put, takeUp };
 })();
 
 const listModule = (() => {
-// What is done to a list of a draft. What hangs on the whole list, as its length, has it noted as
+// Operations on a list of a draft. What hangs on the whole list, as its length, has it noted as
 // seen; what hangs on one element, that one.
 
 /**
@@ -3061,7 +3330,7 @@ function searches(own) {
 }
 
 /**
- * Where `splice` begins, and how many it takes, as `Array` has it.
+ * The index at which `splice` begins, and the number that it takes, as `Array` has it.
  * @param {any[]} asked
  * @param {number} length
  * @param {() => void} all
@@ -3090,7 +3359,7 @@ function replaceAt(draft, node, start, count, made) {
   return taken.map((kid) => draft.of(kid));
 }
 
-// What is put in is put in front of an element or behind one, but at the start.
+// Elements that are put in are put in front of one or behind one, but at the start.
 /** @param {Draft} draft @param {Node} node @param {number} start @param {number} end */
 function neighbour(draft, node, start, end) {
   const { list } = node;
@@ -3145,7 +3414,7 @@ class Draft {
   }
 
   /**
-   * What stands at a path.
+   * The part that stands at a path.
    * @param {readonly string[]} path
    */
   at(path) {
@@ -3155,7 +3424,7 @@ class Draft {
   }
 
   /**
-   * What the application is given of a node.
+   * Returns what the application is given of a node.
    * @param {Node} node
    */
   of(node) {
@@ -3329,7 +3598,7 @@ function dropMember(draft, node, name) {
   node.members.delete(name);
 }
 
-// Where it may be a list, another place would stand for another element then.
+// Another place would stand for another element then, where it may be a list.
 /** @param {Node} node @param {string} name @param {boolean} isReplaced */
 function checkPlace(node, name, isReplaced) {
   if (!node.isPartial || isReplaced || (index(name) === null && name !== "-")) return;
@@ -3392,7 +3661,7 @@ return { longestRising };
 })();
 
 const matchedModule = (() => {
-// Which elements of a list are those of another one: the same parts, and values that are equal.
+// The elements of a list that are those of another one: the same parts, and values that are equal.
 
 /** @typedef {import("./node.mjs").Node} Node */
 
@@ -3429,7 +3698,7 @@ function matched(list, goal, isFree) {
   return by;
 }
 
-// What was looked into may have lost something by then, so it stands for no value.
+// A part that was looked into may have lost something by then, so it stands for no value.
 /** @param {Node} kid */
 function text(kid) {
   return kid.origin !== null && kid.isOpen ? null : JSON.stringify(kid.value);
@@ -3527,7 +3796,7 @@ function live(draft) {
 }
 
 /**
- * Whether at least half of it is the same.
+ * True if at least half of it is the same.
  * @param {Node} before
  * @param {Node} kid
  */
@@ -3554,7 +3823,7 @@ function copied(draft, kid) {
   return new Node({ is: "value", value: kid.value }, null);
 }
 
-// What stands in a value that was put in is told with it.
+// Tells, with a value that was put in, what stands in it.
 /** @param {Draft} draft @param {Node} kid @returns {Node} */
 function toldBy(draft, kid) {
   if (!kid.isOpen) return kid;
@@ -3692,7 +3961,8 @@ class Difference {
     for (const kid of last) this.#pushElement(node, list, kid);
   }
 
-  // What was pushed comes to the end of the list, also where others have made that longer by then.
+  // The end of the list: what was pushed comes there, also where others have made that longer by
+  // then.
   /** @param {Node} node */
   #endOf(node) {
     const { pushed, seen } = this.#draft;
@@ -3728,7 +3998,7 @@ class Difference {
   }
 
   /**
-   * Whether a part goes to another container.
+   * True if a part goes to another container.
    * @param {Node} kid
    * @param {Node} node
    */
@@ -3826,7 +4096,7 @@ class Difference {
   }
 
   /**
-   * Where a part stands by now; null where it does not.
+   * The path at which a part stands by now; null where it stands nowhere.
    * @param {Node} kid
    * @returns {string[] | null}
    */
@@ -3901,7 +4171,7 @@ const { spelled, startsWith } = pointerModule;
 // An edit has no more operations.
 const OPERATIONS = 64;
 
-// Where tests would take more characters, the revision is tested in their place.
+// The revision is tested in place of tests that would take more characters.
 const TESTS = 16_384;
 
 /**
@@ -3945,6 +4215,7 @@ const changeModule = (() => {
 // Changes of a document by a function that is given a draft of it. Where the patch is refused since
 // the document is another one by then, the function is called again, on what is shown then.
 const { Draft } = draftModule;
+const { checkOptions } = optionsModule;
 const { guarded } = guardModule;
 const { knownBy } = knownModule;
 const { anew } = placeModule;
@@ -3957,10 +4228,12 @@ const { anew } = placeModule;
  * @typedef {{ patch: Operation[], isByBase: boolean }} Made
  */
 
-// How often the function is called, if nothing is said.
+const CHANGE = ["guard", "tries", "optimistic", "undo", "once"];
+
+// The number of times that the function is called, if nothing is said.
 const TRIES = 20;
 
-// What a patch is refused as that was made of another document.
+// The faults by which a patch is refused that was made of another document.
 const OUTDATED = [
   "stale",
   "test-failed",
@@ -3975,23 +4248,26 @@ const OUTDATED = [
  * Gives the new revision; that of the slots where nothing is changed.
  * @param {any} board
  * @param {Make} make
- * @param {ChangeOptions & { keys?: Map<string, string> }} options
+ * @param {ChangeOptions & { keys?: Map<string, string> }} asked
  * @returns {Promise<number>}
  */
-async function change(board, make, { guard = "values", tries = TRIES, keys, ...options }) {
+async function change(board, make, asked) {
+  checkOptions("change", asked, CHANGE, ["keys"]);
+  const { guard = "values", tries = TRIES, keys, ...options } = asked;
   checkGuard(guard);
   const own = { optimistic: true, ...options, silent: true };
   if (board.slots === null) await board.ready;
   /** @type {Made | null} */
   let made = null;
   try {
-    return await anew(board, tries, OUTDATED, async () => {
+    return await anew(board, tries, OUTDATED, async (sends) => {
       made = drafted(board, make, guard, keys);
       // A base is of what the relay showed, without the edits that wait.
       while (made?.isByBase && board.slots !== board.confirmed) {
         await board.quiet();
         made = drafted(board, make, guard, keys);
       }
+      sends();
       if (made === null) return board.rev;
       return board.edit(made.patch, made.isByBase ? { ...own, ...based(board) } : own);
     });
@@ -4027,17 +4303,19 @@ return { change };
 })();
 
 const warningModule = (() => {
-// What an application is told that does not listen to states: why there is no connection.
+// Warnings for an application that does not listen to states: why there is no connection, and why
+// there will be none.
 const { HandshakeFailed } = errorsModule;
 
-/** Warns once of each time in which no connection can be had. */
+/** Warns once of each time in which no connection can be had, and of a board that is refused. */
 function warning() {
   let warned = false;
   return (/** @type {string} */ state, /** @type {Error | null} */ cause) => {
     if (state === "open") warned = false;
-    if (warned || !(cause instanceof HandshakeFailed)) return;
+    const isOver = state === "closed" && cause !== null;
+    if (!isOver && (warned || !(cause instanceof HandshakeFailed))) return;
     warned = true;
-    console.warn(`relay: ${cause.message}; it is tried again`);
+    console.warn(`relay: ${cause.message}; it is ${isOver ? "given up" : "tried again"}`);
   };
 }
 
@@ -4061,6 +4339,7 @@ const { Queue } = queueModule;
 const { wills } = willModule;
 const { beginning } = beginModule;
 const { change } = changeModule;
+const { checkFunction, checkOptions, checkPatch, checkView } = optionsModule;
 const { checked } = jsonModule;
 const { knownBy } = knownModule;
 const { warning } = warningModule;
@@ -4074,7 +4353,7 @@ const { warning } = warningModule;
  * @typedef {import("./overlay.mjs").Unconfirmed} Unconfirmed
  */
 
-// How often an undo that has to be sure of an empty place tries.
+// The number of times that an undo that has to be sure of an empty place tries.
 const TRIES = 10;
 
 const DEFAULTS = {
@@ -4107,8 +4386,10 @@ class Board {
   #stepping = Promise.resolve(); // the undo or redo that was asked for last
   /** @type {(() => void)[]} */
   #quietWaiters = []; // told when no edit of this client waits to be shown
-  /** @type {Set<Promise<unknown>>} */
-  #said = new Set(); // what was asked for, and has not ended
+  /** @type {Set<Promise<void>>} */
+  #said = new Set(); // the ends of what was asked for, and has not ended
+  /** @type {WeakSet<Error>} */
+  #toldOf = new WeakSet(); // causes that `onTakenBack` was told
   /** @type {Counter | null} */
   #counter;
   #will;
@@ -4136,6 +4417,7 @@ class Board {
       told: (message) => this.#follower.told(message),
       astray: () => this.#follower.astray(),
       lost: (cause) => this.#enter("waiting", cause),
+      refused: (cause) => this.#finish(cause),
       connecting: () => this.#enter("connecting", null),
       waiting: (asked) => this.#queue.keep(asked),
     });
@@ -4149,9 +4431,7 @@ class Board {
     this.ready = this.#follower.shown().then(() => this.slots);
     this.ready.catch(() => {});
     this.subscribe = this.subscribe.bind(this);
-    for (const { patch, ...seen } of this.#queue.left()) {
-      this.edit(patch, { optimistic: true, ...seen }).catch(() => {});
-    }
+    for (const { patch, ...seen } of this.#queue.left()) this.#editLeft(patch, seen);
     this.#link.connect();
   }
 
@@ -4160,17 +4440,20 @@ class Board {
     return this.#follower.held.view;
   }
 
-  /** What is shown: what the relay showed, with the optimistic edits that wait laid over it. */
+  /**
+   * The slots that are shown: what the relay showed, with the optimistic edits that wait laid over
+   * it.
+   */
   get slots() {
     return this.#shown;
   }
 
-  /** What the relay showed. */
+  /** The slots as the relay showed them. */
   get confirmed() {
     return this.#follower.held.slots;
   }
 
-  /** How many optimistic edits wait. */
+  /** The number of optimistic edits that wait. */
   get pending() {
     return this.#overlay.pending;
   }
@@ -4215,6 +4498,7 @@ class Board {
 
   /** @param {readonly Shown[]} view */
   watch(view) {
+    checkView("watch", view);
     return this.#follower.watch(view).then(() => this.slots);
   }
 
@@ -4230,7 +4514,9 @@ class Board {
   }
 
   /**
-   * Asks for what makes edits: `sync` waits for it. Who only watches asks for nothing.
+   * Asks for what makes edits: `sync` waits for it. Who only watches asks for nothing. Nobody here
+   * looks at what it gives, so the platform reports a failure at which the application does not
+   * look either.
    * @template T
    * @param {() => Promise<T>} ask
    * @returns {Promise<T>}
@@ -4239,10 +4525,15 @@ class Board {
     const asked = this.#options.readOnly
       ? Promise.reject(new Refused({ fault: "read-only" }))
       : ask();
-    const ended = () => void this.#said.delete(asked);
-    this.#said.add(asked);
-    asked.then(ended, ended);
-    return asked;
+    const ended = asked.then(NOTHING, NOTHING);
+    this.#said.add(ended);
+    ended.then(() => this.#said.delete(ended));
+    const own = asked.catch((cause) => {
+      // Whoever hears of what is taken back need not look at the promise as well.
+      if (this.#toldOf.has(cause)) own.catch(NOTHING);
+      throw cause;
+    });
+    return own;
   }
 
   /**
@@ -4251,7 +4542,7 @@ class Board {
    * @returns {Promise<number>}
    */
   edit(patch, options = {}) {
-    return this.said(() => this.#edit(patch, options, options.undo === false ? null : "edit"));
+    return this.said(() => this.#edit(patch, options, options?.undo === false ? null : "edit"));
   }
 
   /**
@@ -4271,17 +4562,23 @@ class Board {
    */
   changePlace(path, make, options) {
     /** @param {import("./draft.mjs").Draft} draft */
-    const drafted = (draft) => made(make(draft.at(path)));
+    const drafted = (draft) => {
+      checkFunction("change", make);
+      made(make(draft.at(path)));
+    };
     return this.said(() => change(this, drafted, options));
   }
 
   /**
-   * An edit that the client made anew in vain.
+   * Tells the application of an optimistic edit that is shown no more.
    * @param {Operation[]} patch
    * @param {unknown} cause
    */
   takenBack(patch, cause) {
-    this.#options.onTakenBack?.({ patch, cause });
+    const { onTakenBack } = this.#options;
+    if (!onTakenBack) return;
+    if (cause instanceof Error) this.#toldOf.add(cause);
+    onTakenBack({ patch, cause });
   }
 
   /**
@@ -4296,7 +4593,7 @@ class Board {
   }
 
   /**
-   * What the relay is to do when this session ends.
+   * Tells the relay what to do when this session ends.
    * @param {readonly Operation[]} patch
    * @param {unknown} [of] the part of a page that leaves it
    * @returns {Promise<void>}
@@ -4324,11 +4621,13 @@ class Board {
    * @returns {Promise<number>}
    */
   #edit(patch, options, role) {
-    const { base, epoch = this.epoch, optimistic = false, silent = false } = options;
-    const { once = false, sets } = options;
     /** @type {Unconfirmed["left"]} */
     const left = (inverse) => void (inverse && role && this.#history.record(role, inverse));
     const done = new Promise((resolve, reject) => {
+      checkPatch("edit", patch);
+      checkOptions("edit", options, EDIT, ["silent", "sets"]);
+      const { base, epoch = this.epoch, optimistic = false, silent = false } = options;
+      const { once = false, sets } = options;
       /** @type {Unconfirmed} */
       const own = { patch: checked(patch), optimistic, silent, rev: null, epoch: null, left };
       const counter = once ? this.#counterOf(base) : null;
@@ -4347,13 +4646,23 @@ class Board {
       if (optimistic) this.#tell(null);
       this.#link.ask(edit);
     });
-    // Whoever hears of what is taken back need not look at the promise as well.
-    if (optimistic && this.#options.onTakenBack) done.catch(() => {});
     return done;
   }
 
   /**
-   * What an edit comes to.
+   * An edit that an earlier page left. Nobody has its promise, so the console says why it fails.
+   * One that is not sent now either is still kept.
+   * @param {readonly Operation[]} patch @param {object} seen
+   */
+  #editLeft(patch, seen) {
+    this.edit(patch, { optimistic: true, ...seen }).catch((cause) => {
+      if (cause instanceof Closed || this.#toldOf.has(cause)) return;
+      console.warn(`relay: an edit that was left waiting is not done: ${cause.message}`);
+    });
+  }
+
+  /**
+   * The outcome of an edit.
    * @param {Unconfirmed} unconfirmed
    * @param {(rev: number) => void} resolve @param {(cause: Error) => void} reject
    * @returns {import("./edit.mjs").Outcome}
@@ -4406,7 +4715,7 @@ class Board {
     try {
       this.#tell(null);
     } finally {
-      if (!edit.silent) this.#options.onTakenBack?.({ patch: edit.patch, cause });
+      if (!edit.silent) this.takenBack(edit.patch, cause);
     }
   }
 
@@ -4535,6 +4844,10 @@ class Board {
   }
 }
 
+const NOTHING = () => {};
+
+const EDIT = ["base", "epoch", "optimistic", "undo", "once"];
+
 // A function that goes on later would change a draft of which the patch was made.
 /** @param {any} given by the function of a change */
 function made(given) {
@@ -4563,6 +4876,7 @@ const { Board } = boardModule;
 const { Place } = placeModule;
 const { Places } = placesModule;
 const { pathOf } = knownModule;
+const { checkView } = optionsModule;
 const { same } = jsonModule;
 
 /** @typedef {import("../relay.js").Shown} Shown */
@@ -4583,13 +4897,14 @@ class Room {
     this.#options = { ...options, onConnections };
   }
 
-  /** How many connections the views take: one, until they have more than 16 slots. */
+  /** The number of connections that the views take: one, until they have more than 16 slots. */
   get connections() {
     return this.#boards.length;
   }
 
   /** @param {readonly Shown[]} pointers */
   view(pointers) {
+    checkView("view", pointers);
     if (pointers.length > SLOTS) throw new RangeError(`a view has at most ${SLOTS} slots`);
     pointers.forEach(pathOf);
     const shared =
@@ -4652,8 +4967,8 @@ class Shared {
     this.#views.delete(view);
   }
 
-  // What nobody shows any more is watched as long as there is room for it, so that no slots are
-  // asked for anew.
+  // Pointers that nobody shows any more are watched as long as there is room for it, so that no
+  // slots are asked for anew.
   /** @param {readonly Shown[]} pointers */
   #with(pointers) {
     const shown = distinct([...this.#views.values(), pointers].flat());
@@ -4667,8 +4982,8 @@ function distinct(all) {
   return all.filter((shown, k) => all.findIndex((other) => same(other, shown)) === k);
 }
 
-// What one part of a page shows. Its edits, and what of them waits or is undone, are those of its
-// connection.
+// The slots that one part of a page shows. Its edits, and what of them waits or is undone, are
+// those of its connection.
 class SharedBoard {
   #shared;
   #pointers;
@@ -4700,7 +5015,7 @@ class SharedBoard {
     return this.#seen.own;
   }
 
-  /** What the relay showed of them. */
+  /** The slots as the relay showed them. */
   get confirmed() {
     return this.#own(this.#shared.board.confirmed);
   }
@@ -4738,7 +5053,7 @@ class SharedBoard {
       this.#pointers.map(
         (shown) => slots[view.findIndex((/** @type {Shown} */ other) => same(other, shown))],
       );
-    return own === null || own.includes(undefined) ? null : own;
+    return own === null || own.includes(undefined) ? null : Object.freeze(own);
   }
 
   // The same list as before where no slot of this view changed.
@@ -4810,8 +5125,8 @@ return { Room };
 })();
 
 const inspectedModule = (() => {
-// What a client says and hears, for whoever looks for a mistake: a class of sockets to connect
-// with.
+// Shows what a client says and hears, for whoever looks for a mistake: a class of sockets to
+// connect with.
 
 /**
  * @param {(told: { way: "sent" | "heard", message: any }) => void} tell of each text, in order
@@ -4840,7 +5155,7 @@ return { inspected };
 })();
 
 const renewalModule = (() => {
-// Who is here, told to a relay that knows no wills: each entry is renewed while its client is here,
+// Tells who is here to a relay that knows no wills: each entry is renewed while its client is here,
 // and whoever sees that one was not renewed takes it away. Each renewal is an edit: a revision,
 // told to every watcher of the object.
 
@@ -4871,7 +5186,7 @@ class Renewal {
     this.#timer = undefined;
   }
 
-  /** What an entry has besides. */
+  /** The members that an entry has besides. */
   get mark() {
     if (this.#timer === undefined) return {};
     this.#beat += 1;
@@ -4900,9 +5215,9 @@ return { Renewal };
 })();
 
 const presenceModule = (() => {
-// Who is here: an entry of this client in an object of the document. A will takes it away when the
-// session ends, however it ends. A relay that knows no wills is told by renewals in its place
-// (renewal.mjs).
+// Tells who is here: an entry of this client in an object of the document. A will takes it away
+// when the session ends, however it ends. A relay that knows no wills is told by renewals in its
+// place (renewal.mjs).
 //
 // The will is left before the entry is written, so that no entry is ever there without one. It
 // tests which session wrote the entry: where a later session of this client is here already, the
@@ -4910,14 +5225,15 @@ const presenceModule = (() => {
 const { Closed, Refused, Unknown } = errorsModule;
 const { Renewal } = renewalModule;
 const { newId } = idModule;
+const { checkOptions } = optionsModule;
 const { checked, isObject } = jsonModule;
 const { spelled, tokens } = pointerModule;
 
 /** @typedef {{ session: string, beat?: number } & Record<string, unknown>} Entry */
 /** @typedef {{ resolve: () => void, reject: (cause: unknown) => void }} Waiter */
 
-// What the client does by itself: nothing to be undone, and nothing to tell the application of
-// where it is refused.
+// The options of what the client does by itself: nothing to be undone, and nothing to tell the
+// application of where it is refused.
 const BY_ITSELF = { optimistic: true, undo: false, silent: true };
 
 class Presence {
@@ -4955,9 +5271,10 @@ class Presence {
     this.#entry = checked(entry);
     this.#renewal = new Renewal(options, () => this.#enter());
     this.ready = this.#here();
+    // First, since it fails where the view does not show the place.
+    const values = this.#place.subscribe(() => this.#returned());
     const states = board.states((/** @type {string} */ state) => this.#turned(state));
     const changes = board.subscribe(() => this.#changed());
-    const values = this.#place.subscribe(() => this.#returned());
     this.#ends = [() => this.#renewal.end(), states, changes, values];
     this.#turned(board.state);
   }
@@ -5008,7 +5325,7 @@ class Presence {
     return this.#path + spelled([this.#id]);
   }
 
-  // Whether the entry was written by the present session.
+  // True if the entry was written by the present session.
   get #isHere() {
     return this.#session !== "" && this.#written === this.#session;
   }
@@ -5039,8 +5356,8 @@ class Presence {
     else this.#enter();
   }
 
-  // Where the entry could not be written, as in a room that has not begun, another document is
-  // another try.
+  // Another document is another try where the entry could not be written, as in a room that has not
+  // begun.
   #changed() {
     if (!this.#isHere && this.#board.confirmed !== this.#failedOn) this.#enter();
   }
@@ -5142,16 +5459,17 @@ class Presence {
 
 /** @param {unknown} value @returns {Record<string, Entry>} */
 function entries(value) {
-  if (!isObject(value)) return {};
-  return Object.fromEntries(Object.entries(value).filter(([, entry]) => isObject(entry)));
+  const own = isObject(value) ? Object.entries(value) : [];
+  return Object.freeze(Object.fromEntries(own.filter(([, entry]) => isObject(entry))));
 }
 
 /**
  * @param {any} board @param {string} path @param {object} entry
  * @param {{ id?: string, every?: number, gone?: number }} [options]
  */
-function presence(board, path, entry, options) {
+function presence(board, path, entry, options = {}) {
   tokens(path);
+  checkOptions("presence", options, ["id", "every", "gone"]);
   return new Presence(board, path, entry, options);
 }
 
@@ -5164,6 +5482,8 @@ const relayModule = (() => {
 const { Board } = boardModule;
 const { Room } = roomModule;
 const { checkRoom } = handshakeModule;
+const { checkOptions, checkView } = optionsModule;
+const { checked } = jsonModule;
 const { afterAll, knownBy, slotOf, slotsOf } = knownModule;
 
 const { Closed, HandshakeFailed, Refused, Unknown } = errorsModule;
@@ -5174,8 +5494,26 @@ const { presence } = presenceModule;
 /** @typedef {import("../relay.js").Shown} Shown */
 /** @typedef {import("../relay.js").Operation} Operation */
 
+const BOARD = [
+  "begin",
+  "readOnly",
+  "onState",
+  "onTakenBack",
+  "queue",
+  "storage",
+  "storageKey",
+  "once",
+  "WebSocket",
+  "firstWait",
+  "longestWait",
+  "quiet",
+  "patience",
+];
+
 /** @param {string} url @param {any} options @returns {any} */
-function connect(url, options) {
+function connect(url, options = {}) {
+  checkOptions("connect", options, ["view", "onChange", ...BOARD]);
+  checkView("connect", options.view);
   checkSockets(options);
   checkRoom(url);
   return new Board(url, options);
@@ -5183,18 +5521,19 @@ function connect(url, options) {
 
 /** @param {string} url @param {any} [options] @returns {any} */
 function room(url, options = {}) {
+  checkOptions("room", options, ["onConnections", ...BOARD]);
   checkSockets(options);
   checkRoom(url);
   return new Room(url, options);
 }
 
 /**
- * What the slots of a view show when a patch is laid over them, as far as they tell it: of the
- * others each is as it was, and `known` is false. Fails where an operation is known not to fit.
+ * Returns what the slots of a view show when a patch is laid over them, as far as they tell it: of
+ * the others each is as it was, and `known` is false. Fails where an operation is known not to fit.
  * @param {readonly Shown[]} view @param {readonly any[]} slots @param {readonly Operation[]} patch
  */
 function overlaid(view, slots, patch) {
-  const whole = afterAll(knownBy(view, slots), patch);
+  const whole = afterAll(knownBy(view, slots), checked(patch));
   return {
     slots: slotsOf(whole, view, slots),
     known: view.map((shown) => slotOf(whole, shown) !== null),

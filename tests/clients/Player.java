@@ -134,7 +134,7 @@ public final class Player {
         return failure == null ? NODES.objectNode().put("rev", rev) : fault(failure);
     }
 
-    /** What an edit comes to that is made of what was seen, and done to that alone. */
+    /** The outcome of an edit that is made of what was seen, and done to that alone. */
     private static CompletableFuture<ObjectNode> answer(Board board, Patch patch, Change seen) {
         EditOptions how = EditOptions.PLAIN.on(seen.rev(), seen.epoch());
         return board.edit(patch, how).handle((rev, failure) ->

@@ -69,7 +69,7 @@ class Page:
         return await answer
 
     async def evaluate(self, expression):
-        """What an expression is, or what it promises."""
+        """The value of an expression, or of what it promises."""
         answer = await self.say(
             "Runtime.evaluate", expression=expression, awaitPromise=True, returnByValue=True
         )

@@ -143,3 +143,32 @@ test("elements by a key: found, changed, moved and removed, wherever they are th
     await assert.rejects(act(), isRefused("missing"));
   }
 });
+
+test("a key that no element has is looked for in fresh slots, once", async (t) => {
+  let watches = 0;
+  let isDeaf = false;
+  const sockets = class extends WebSocket {
+    set onmessage(hear) {
+      super.onmessage = (event) => (isDeaf && event.data.includes('"patch"')) || hear(event);
+    }
+    send(text) {
+      watches += Number(JSON.parse(text).do === "watch");
+      super.send(text);
+    }
+  };
+  const own = { view: ["/cards"], WebSocket: sockets };
+  const [board, other] = await boardsOf(t, await begunRoom(CARDS), own, ["/cards"]);
+  const [cards, theirs] = [board, other].map((one) => one.at("/cards").byKey("id"));
+  watches = 0;
+  await assert.rejects(cards.change("x", () => {}), isRefused("missing"));
+  assert.equal(watches, 1);
+  // One that is shown, and was just removed: the relay refuses that first.
+  isDeaf = true;
+  await theirs.remove("m");
+  await assert.rejects(cards.change("m", (card) => void (card.done = 1)), isRefused("missing"));
+  assert.equal(watches, 2);
+  // One that is there, and is not shown yet.
+  await theirs.insert({ id: "e", text: "eggs" }, null);
+  await cards.change("e", (card) => void (card.text += "!"));
+  assert.deepEqual([watches, texts(board.at("/cards"))], [3, ["bread", "eggs!"]]);
+});

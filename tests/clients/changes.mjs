@@ -164,8 +164,8 @@ const STEPS = {
 };
 
 /**
- * What somebody else does to a document: an operation that fits. It makes no list of an object and
- * no object of a list, which no test of a guard says.
+ * The change that somebody else makes to a document: an operation that fits. It makes no list of an
+ * object and no object of a list, which no test of a guard says.
  */
 export function randomOther(random, document) {
   const places = [...paths(document, "")];

@@ -33,7 +33,7 @@ VIEWS = [
     ["/lists/a/1", "/lists/c/0/k", "/lists/a"],
 ]
 CHECKS = 6
-"""How many quiet moments a seed has."""
+"""The number of quiet moments that a seed has."""
 COUNTS = "c"
 """With what the tag of an edit begins that raises the count."""
 CHANGES = "d"
@@ -143,7 +143,7 @@ class Play:
         await asyncio.wait_for(asyncio.gather(*editing), 60)
 
     def is_again(self, answer, began):
-        """Whether an edit is sent to this run again where its answer was lost."""
+        """True if an edit is sent to this run again where its answer was lost."""
         return answer.get("of") == self.epoch() or (answer.get("once") and began == self.run)
 
     async def edit(self, player):

@@ -34,7 +34,7 @@ async def players(url):
 
 
 async def refused(admin):
-    """How many handshakes were answered 503."""
+    """The number of handshakes that were answered 503."""
     text = asking.get(admin, "/metrics").body.decode()
     return next(int(line[len(REFUSED) :]) for line in text.splitlines() if line.startswith(REFUSED))
 

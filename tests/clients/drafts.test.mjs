@@ -9,7 +9,7 @@ import { chance, randomChange, randomDocument, randomOther } from "./changes.mjs
 
 const ROUNDS = 3000;
 
-/** What a function makes of a document: by a draft, and by itself. */
+/** Returns what a function makes of a document: by a draft, and by itself. */
 function drafted(document, make, guard = "values") {
   const draft = new Draft(knownBy([""], [[document]]));
   const plain = structuredClone(document);

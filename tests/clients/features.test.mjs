@@ -1,5 +1,5 @@
-// What the JavaScript client offers beyond slots that stay right: each in a room of its own of one
-// relay (RELAY names the program).
+// Tests of what the JavaScript client offers beyond slots that stay right: each in a room of its
+// own of one relay (RELAY names the program).
 import assert from "node:assert/strict";
 import { copyFileSync, mkdirSync, mkdtempSync, rmSync, writeFileSync } from "node:fs";
 import { tmpdir } from "node:os";
@@ -48,7 +48,15 @@ test("a value that JSON cannot say, or the relay refuses, is named by its path",
   assert.equal(board.rev, 2);
 });
 
-test("a room's name is checked at once", () => {
+test("a room's address is checked at once", () => {
+  assert.throws(() => connect("ws://h/room/x", { view: [] }), {
+    name: "RangeError",
+    message: "an address ends with /rooms/NAME, and this path is /room/x",
+  });
+  assert.throws(() => connect(newRoom("a/watch"), { view: [] }), {
+    name: "RangeError",
+    message: "leave out `/watch`, and use the option `readOnly`",
+  });
   for (const name of ["", "a b", "ä", "a.b", "x".repeat(65)]) {
     assert.throws(() => connect(newRoom(name), { view: [] }), RangeError);
   }
@@ -56,18 +64,44 @@ test("a room's name is checked at once", () => {
 });
 
 test("a failed handshake has a cause", async () => {
-  const cause = (url) =>
+  const failed = (url) =>
     new Promise((resolve) => {
       const board = connect(url, {
         view: [],
-        onState: (state, cause) => state === "waiting" && (resolve(cause), board.close()),
+        onState(state, cause) {
+          if (cause === null) return;
+          board.close();
+          resolve([state, cause, cause.reason, cause.status]);
+        },
       });
     });
-  const refused = await cause(newRoom().replace("rooms", "elsewhere"));
-  assert.ok(refused instanceof HandshakeFailed);
-  assert.deepEqual([refused.reason, refused.status], ["refused", 404]);
-  const unreachable = await cause("ws://127.0.0.1:1/rooms/a");
-  assert.deepEqual([unreachable.reason, unreachable.status], ["unreachable", null]);
+  const [state, cause, ...refused] = await failed(newRoom().replace("/rooms/", "/other/rooms/"));
+  assert.ok(cause instanceof HandshakeFailed);
+  assert.deepEqual([state, ...refused], ["closed", "refused", 404]);
+  const { message } = cause;
+  assert.match(message, /with 404: a room is at \/rooms\/NAME, and this path is \/other\/rooms\/r/);
+  const [, asked] = await failed(`${newRoom()}?token=a`);
+  assert.match(asked.message, /with 404: leave out the `\?` and what follows/);
+  const [waits, , ...unreachable] = await failed("ws://127.0.0.1:1/rooms/a");
+  assert.deepEqual([waits, ...unreachable], ["waiting", "unreachable", null]);
+});
+
+test("a 404 ends a board only if no room was ever entered there", async (t) => {
+  let url = await begunRoom();
+  const sockets = cuttable();
+  const moved = class extends sockets {
+    constructor() {
+      super(url);
+    }
+  };
+  const [board] = await boardsOf(t, url, { view: ["/n"], WebSocket: moved, longestWait: 10 });
+  url = url.replace("/rooms/", "/other/rooms/");
+  const states = [];
+  board.states((state) => states.push(state));
+  sockets.cut(false);
+  await until(() => states.filter((state) => state === "waiting").length > 2);
+  url = url.replace("/other/", "/");
+  await until(() => board.state === "open");
 });
 
 test("an optimistic edit shows at once, and stays", async (t) => {

@@ -72,7 +72,8 @@ async def tells_of_changes(page, relay):
         'document.querySelector(\'#patch\').value = \'[{"op":"test","path":"/count","value":1}]\''
     )
     await page.evaluate("document.querySelector('#edit').requestSubmit()")
-    await page.until("document.querySelector('#problem').textContent", "test-failed at 0")
+    problem = "document.querySelector('#problem').textContent.split(':')[0]"
+    await page.until(problem, "test-failed at 0")
     said = await page.evaluate(LOG)
     assert said[0].endswith("test-failed at 0 (somebody changed that first)"), said
     assert said[1].startswith("edit") and said[1].endswith("1 operation"), said

@@ -1,4 +1,4 @@
-// What a player of the JavaScript client does, in Node and in a page: `play(relay, url, view)`
+// The jobs of a player of the JavaScript client, in Node and in a page: `play(relay, url, view)`
 // makes a function from what is asked to a promise of the answer.
 "use strict";
 globalThis.play = ({ connect }, url, view) => {
@@ -12,7 +12,7 @@ globalThis.play = ({ connect }, url, view) => {
   const counter = connect(url, { view: ["/count"], ...waits });
   const changer = connect(url, { view: ["/changed", "/log"], ...waits });
 
-  // What an edit comes to: on the revision of the board's slots if it is `based`, or `once`.
+  // The outcome of an edit: on the revision of the board's slots if it is `based`, or `once`.
   async function answer(board, patch, how) {
     await board.ready;
     const { rev: base, epoch: of } = board;

@@ -18,7 +18,7 @@ function frozen(value) {
   return value;
 }
 
-/** What a patch leads to as text, or undefined where it does not fit. */
+/** The text to which a patch leads, or undefined where it does not fit. */
 function orMisfit(make) {
   try {
     return JSON.stringify(make());

@@ -1,4 +1,4 @@
-// When a connection is given up: one that is gone, and not one that is slow.
+// Tests of when a connection is given up: one that is gone, and not one that is slow.
 import assert from "node:assert/strict";
 import { connect as dial, createServer } from "node:net";
 import { once } from "node:events";
@@ -44,7 +44,7 @@ async function throttled(t, url, rate) {
 }
 
 /** The milliseconds between the changes to `waiting`, which are so many. */
-function losses(t, options, count) {
+function losses(t, { edits, ...options }, count) {
   return new Promise((resolve) => {
     const at = [];
     let begun = performance.now();
@@ -57,7 +57,7 @@ function losses(t, options, count) {
       },
     });
     t.after(() => board.close());
-    options.edits?.(board);
+    edits?.(board);
   });
 }
 

@@ -25,7 +25,7 @@ class InPython:
         return await self.answer(self.board, patch, how)
 
     async def answer(self, board, patch, how):
-        """What an edit comes to: on the revision of the board's slots if it is `based`, or
+        """The outcome of an edit: on the revision of the board's slots if it is `based`, or
         `once`."""
         based = {"base": board.rev}
         options = {"based": based, "once": {"once": True}}.get(how, {})

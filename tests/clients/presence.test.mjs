@@ -1,5 +1,5 @@
-// Who is here: over restarts, in rooms that have not begun, and beside clients that write something
-// else there.
+// Tests of who is here: over restarts, in rooms that have not begun, and beside clients that write
+// something else there.
 import assert from "node:assert/strict";
 import { spawn } from "node:child_process";
 import { test } from "node:test";

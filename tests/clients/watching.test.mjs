@@ -116,13 +116,13 @@ test("who only watches sees who is here, and is not here", async (t) => {
 
 test("an older relay does not know the address", async () => {
   const cause = await new Promise((resolve) => {
-    const onState = (state, cause) => state === "waiting" && (resolve(cause), board.close());
-    const url = newRoom().replace("rooms", "elsewhere");
-    const board = connect(url, { view: [], readOnly: true, onState });
+    const onState = (state, cause) => state === "closed" && resolve(cause);
+    const url = newRoom().replace("/rooms/", "/old/rooms/");
+    connect(url, { view: [], readOnly: true, onState });
   });
   assert.ok(cause instanceof HandshakeFailed);
   assert.equal(cause.status, 404);
-  assert.match(cause.message, /\/watch refuses the connection, with 404: an address ends with/);
+  assert.match(cause.message, /\/watch refuses the connection, with 404: a room is at \/rooms\//);
 });
 
 test("a room is ended if nobody edited since", async (t) => {

@@ -136,8 +136,14 @@ test("without a WebSocket, and without a relay, an error says what to do", async
   board.states((state) => (tries += Number(state === "waiting")));
   await until(() => tries > 2);
   board.close();
-  const advice = "start the relay there, or connect to where it listens; it is tried again";
+  const advice = "start the relay there, or check the address and the port; it is tried again";
   assert.deepEqual(warned, [`relay: nothing answers at ws://127.0.0.1:1/rooms/a: ${advice}`]);
+  const refused = new Refused({ fault: "no-container", at: 0 });
+  assert.equal(
+    refused.message,
+    "no-container at 0: what is around it is no list and no object: write that first",
+  );
+  assert.equal(new Refused({ fault: "unheard-of" }).message, "unheard-of");
   const { message } = new HandshakeFailed("refused", "ws://h/rooms/a", 404);
-  assert.match(message, /with 404: an address ends with \/rooms\/NAME/);
+  assert.match(message, /with 404: what answers there has no rooms, or none to watch only/);
 });

@@ -2,8 +2,9 @@ import type {
   Board,
   ChangeOptions,
   Draft,
+  Frozen,
   Json,
-  Present,
+  Presence,
   SharedBoard,
   Shown,
   State,
@@ -23,23 +24,23 @@ export function useBoard<B extends { close(): void }>(
   keys?: readonly unknown[],
 ): B | null;
 
-/** What stands at a pointer; undefined where nothing does, and before the first slots. */
+/** The value that stands at a pointer; undefined where nothing does, and before the first slots. */
 export function useSlot<D, P extends Shown>(
   board: Source<D>,
   pointer: P,
-): ValueOf<D, P> | undefined;
+): Frozen<ValueOf<D, P>> | undefined;
 /**
- * What is selected of it. The component is drawn again when that is another one: by `Object.is`, or
- * by a function that says whether two are equal.
+ * Returns what is selected of it. The component is drawn again when that is another one: by
+ * `Object.is`, or by a function that says whether two are equal.
  */
 export function useSlot<D, P extends Shown, S>(
   board: Source<D>,
   pointer: P,
-  select: (value: ValueOf<D, P> | undefined) => S,
+  select: (value: Frozen<ValueOf<D, P>> | undefined) => S,
   isEqual?: (one: S, other: S) => boolean,
 ): S;
 
-/** What makes changes, and why the last of them failed, until the next one. */
+/** Returns what makes changes, and why the last of them failed, until the next one. */
 export function useChange<D>(
   board: Source<D>,
 ): [
@@ -63,4 +64,4 @@ export function usePresence<E extends object>(
   board: Source<any>,
   pointer: string,
   entry: E,
-): Readonly<Record<string, Present<E>>>;
+): Presence<E>["people"];

@@ -1,5 +1,5 @@
-// What a board shows, as state of React components (18 and later), and what they do to it. Each
-// takes null in place of a board, as there is none on a server and before the first drawing.
+// Gives what a board shows, as state of React components (18 and later), and what they do to it.
+// Each takes null in place of a board, as there is none on a server and before the first drawing.
 //
 //     const board = useBoard(() => connect(url, { view: ["/cards"] }));
 //     const count = useSlot(board, "/cards", (cards) => cards?.length ?? 0);
@@ -31,7 +31,8 @@ export function useBoard(make, keys = []) {
 }
 
 /**
- * What is selected of the value at a pointer. The component is drawn again when that is another.
+ * Returns what is selected of the value at a pointer. The component is drawn again when that is
+ * another.
  * @param {any} board
  * @param {any} pointer
  * @param {(value: any) => any} [select]
@@ -44,7 +45,7 @@ export function useSlot(board, pointer, select = ITSELF, isEqual = Object.is) {
 }
 
 /**
- * What makes changes, and why the last of them failed, until the next one.
+ * Returns what makes changes, and why the last of them failed, until the next one.
  * @param {any} board
  */
 export function useChange(board) {
@@ -113,8 +114,8 @@ export function usePresence(board, pointer, entry) {
 }
 
 /**
- * What is selected of a value that changes. A selection is kept as long as the value and the
- * function are the same, so that it may be another object each time that it is made.
+ * Returns what is selected of a value that changes. A selection is kept as long as the value and
+ * the function are the same, so that it may be another object each time that it is made.
  * @param {any} source with `subscribe`, or null
  * @param {unknown} of
  * @param {() => any} shown

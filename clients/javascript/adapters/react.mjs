@@ -1,5 +1,5 @@
-// What a board, a view or a place shows, as state of a React component (18 and later): it is drawn
-// again when that changes.
+// Gives what a board, a view or a place shows, as state of a React component (18 and later): it is
+// drawn again when that changes.
 //
 //     const [cards] = useRelay(board) ?? [[]];
 //     const title = useRelay(board.at("/title"));

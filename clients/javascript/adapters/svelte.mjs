@@ -1,5 +1,5 @@
-// What a board, a view or a place shows, as a Svelte store: a component reads it as `$cards`, and
-// writes a place by `$title = "..."`.
+// Gives what a board, a view or a place shows, as a Svelte store: a component reads it as `$cards`,
+// and writes a place by `$title = "..."`.
 
 /**
  * @param {any} source A board or a view, of which it holds the slots; or a place, of which it holds

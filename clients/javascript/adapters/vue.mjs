@@ -1,5 +1,5 @@
-// What a board, a view or a place shows, as a ref of Vue 3, which ends with the component that made
-// it.
+// Gives what a board, a view or a place shows, as a ref of Vue 3, which ends with the component
+// that made it.
 //
 //     const title = useRelay(board.at("/title"));
 import { onScopeDispose, shallowRef } from "vue";

@@ -14,6 +14,7 @@ import { Queue } from "./queue.mjs";
 import { wills } from "./will.mjs";
 import { beginning } from "./begin.mjs";
 import { change } from "./change.mjs";
+import { checkFunction, checkOptions, checkPatch, checkView } from "./options.mjs";
 import { checked } from "./json.mjs";
 import { knownBy } from "./known.mjs";
 import { warning } from "./warning.mjs";
@@ -27,7 +28,7 @@ import { warning } from "./warning.mjs";
  * @typedef {import("./overlay.mjs").Unconfirmed} Unconfirmed
  */
 
-// How often an undo that has to be sure of an empty place tries.
+// The number of times that an undo that has to be sure of an empty place tries.
 const TRIES = 10;
 
 const DEFAULTS = {
@@ -60,8 +61,10 @@ export class Board {
   #stepping = Promise.resolve(); // the undo or redo that was asked for last
   /** @type {(() => void)[]} */
   #quietWaiters = []; // told when no edit of this client waits to be shown
-  /** @type {Set<Promise<unknown>>} */
-  #said = new Set(); // what was asked for, and has not ended
+  /** @type {Set<Promise<void>>} */
+  #said = new Set(); // the ends of what was asked for, and has not ended
+  /** @type {WeakSet<Error>} */
+  #toldOf = new WeakSet(); // causes that `onTakenBack` was told
   /** @type {Counter | null} */
   #counter;
   #will;
@@ -89,6 +92,7 @@ export class Board {
       told: (message) => this.#follower.told(message),
       astray: () => this.#follower.astray(),
       lost: (cause) => this.#enter("waiting", cause),
+      refused: (cause) => this.#finish(cause),
       connecting: () => this.#enter("connecting", null),
       waiting: (asked) => this.#queue.keep(asked),
     });
@@ -102,9 +106,7 @@ export class Board {
     this.ready = this.#follower.shown().then(() => this.slots);
     this.ready.catch(() => {});
     this.subscribe = this.subscribe.bind(this);
-    for (const { patch, ...seen } of this.#queue.left()) {
-      this.edit(patch, { optimistic: true, ...seen }).catch(() => {});
-    }
+    for (const { patch, ...seen } of this.#queue.left()) this.#editLeft(patch, seen);
     this.#link.connect();
   }
 
@@ -113,17 +115,20 @@ export class Board {
     return this.#follower.held.view;
   }
 
-  /** What is shown: what the relay showed, with the optimistic edits that wait laid over it. */
+  /**
+   * The slots that are shown: what the relay showed, with the optimistic edits that wait laid over
+   * it.
+   */
   get slots() {
     return this.#shown;
   }
 
-  /** What the relay showed. */
+  /** The slots as the relay showed them. */
   get confirmed() {
     return this.#follower.held.slots;
   }
 
-  /** How many optimistic edits wait. */
+  /** The number of optimistic edits that wait. */
   get pending() {
     return this.#overlay.pending;
   }
@@ -168,6 +173,7 @@ export class Board {
 
   /** @param {readonly Shown[]} view */
   watch(view) {
+    checkView("watch", view);
     return this.#follower.watch(view).then(() => this.slots);
   }
 
@@ -183,7 +189,9 @@ export class Board {
   }
 
   /**
-   * Asks for what makes edits: `sync` waits for it. Who only watches asks for nothing.
+   * Asks for what makes edits: `sync` waits for it. Who only watches asks for nothing. Nobody here
+   * looks at what it gives, so the platform reports a failure at which the application does not
+   * look either.
    * @template T
    * @param {() => Promise<T>} ask
    * @returns {Promise<T>}
@@ -192,10 +200,15 @@ export class Board {
     const asked = this.#options.readOnly
       ? Promise.reject(new Refused({ fault: "read-only" }))
       : ask();
-    const ended = () => void this.#said.delete(asked);
-    this.#said.add(asked);
-    asked.then(ended, ended);
-    return asked;
+    const ended = asked.then(NOTHING, NOTHING);
+    this.#said.add(ended);
+    ended.then(() => this.#said.delete(ended));
+    const own = asked.catch((cause) => {
+      // Whoever hears of what is taken back need not look at the promise as well.
+      if (this.#toldOf.has(cause)) own.catch(NOTHING);
+      throw cause;
+    });
+    return own;
   }
 
   /**
@@ -204,7 +217,7 @@ export class Board {
    * @returns {Promise<number>}
    */
   edit(patch, options = {}) {
-    return this.said(() => this.#edit(patch, options, options.undo === false ? null : "edit"));
+    return this.said(() => this.#edit(patch, options, options?.undo === false ? null : "edit"));
   }
 
   /**
@@ -224,17 +237,23 @@ export class Board {
    */
   changePlace(path, make, options) {
     /** @param {import("./draft.mjs").Draft} draft */
-    const drafted = (draft) => made(make(draft.at(path)));
+    const drafted = (draft) => {
+      checkFunction("change", make);
+      made(make(draft.at(path)));
+    };
     return this.said(() => change(this, drafted, options));
   }
 
   /**
-   * An edit that the client made anew in vain.
+   * Tells the application of an optimistic edit that is shown no more.
    * @param {Operation[]} patch
    * @param {unknown} cause
    */
   takenBack(patch, cause) {
-    this.#options.onTakenBack?.({ patch, cause });
+    const { onTakenBack } = this.#options;
+    if (!onTakenBack) return;
+    if (cause instanceof Error) this.#toldOf.add(cause);
+    onTakenBack({ patch, cause });
   }
 
   /**
@@ -249,7 +268,7 @@ export class Board {
   }
 
   /**
-   * What the relay is to do when this session ends.
+   * Tells the relay what to do when this session ends.
    * @param {readonly Operation[]} patch
    * @param {unknown} [of] the part of a page that leaves it
    * @returns {Promise<void>}
@@ -277,11 +296,13 @@ export class Board {
    * @returns {Promise<number>}
    */
   #edit(patch, options, role) {
-    const { base, epoch = this.epoch, optimistic = false, silent = false } = options;
-    const { once = false, sets } = options;
     /** @type {Unconfirmed["left"]} */
     const left = (inverse) => void (inverse && role && this.#history.record(role, inverse));
     const done = new Promise((resolve, reject) => {
+      checkPatch("edit", patch);
+      checkOptions("edit", options, EDIT, ["silent", "sets"]);
+      const { base, epoch = this.epoch, optimistic = false, silent = false } = options;
+      const { once = false, sets } = options;
       /** @type {Unconfirmed} */
       const own = { patch: checked(patch), optimistic, silent, rev: null, epoch: null, left };
       const counter = once ? this.#counterOf(base) : null;
@@ -300,13 +321,23 @@ export class Board {
       if (optimistic) this.#tell(null);
       this.#link.ask(edit);
     });
-    // Whoever hears of what is taken back need not look at the promise as well.
-    if (optimistic && this.#options.onTakenBack) done.catch(() => {});
     return done;
   }
 
   /**
-   * What an edit comes to.
+   * An edit that an earlier page left. Nobody has its promise, so the console says why it fails.
+   * One that is not sent now either is still kept.
+   * @param {readonly Operation[]} patch @param {object} seen
+   */
+  #editLeft(patch, seen) {
+    this.edit(patch, { optimistic: true, ...seen }).catch((cause) => {
+      if (cause instanceof Closed || this.#toldOf.has(cause)) return;
+      console.warn(`relay: an edit that was left waiting is not done: ${cause.message}`);
+    });
+  }
+
+  /**
+   * The outcome of an edit.
    * @param {Unconfirmed} unconfirmed
    * @param {(rev: number) => void} resolve @param {(cause: Error) => void} reject
    * @returns {import("./edit.mjs").Outcome}
@@ -359,7 +390,7 @@ export class Board {
     try {
       this.#tell(null);
     } finally {
-      if (!edit.silent) this.#options.onTakenBack?.({ patch: edit.patch, cause });
+      if (!edit.silent) this.takenBack(edit.patch, cause);
     }
   }
 
@@ -487,6 +518,10 @@ export class Board {
     }
   }
 }
+
+const NOTHING = () => {};
+
+const EDIT = ["base", "epoch", "optimistic", "undo", "once"];
 
 // A function that goes on later would change a draft of which the patch was made.
 /** @param {any} given by the function of a change */

@@ -1,6 +1,7 @@
 // Changes of a document by a function that is given a draft of it. Where the patch is refused since
 // the document is another one by then, the function is called again, on what is shown then.
 import { Draft } from "./draft.mjs";
+import { checkOptions } from "./options.mjs";
 import { guarded } from "./guard.mjs";
 import { knownBy } from "./known.mjs";
 import { anew } from "./place.mjs";
@@ -13,10 +14,12 @@ import { anew } from "./place.mjs";
  * @typedef {{ patch: Operation[], isByBase: boolean }} Made
  */
 
-// How often the function is called, if nothing is said.
+const CHANGE = ["guard", "tries", "optimistic", "undo", "once"];
+
+// The number of times that the function is called, if nothing is said.
 const TRIES = 20;
 
-// What a patch is refused as that was made of another document.
+// The faults by which a patch is refused that was made of another document.
 const OUTDATED = [
   "stale",
   "test-failed",
@@ -31,23 +34,26 @@ const OUTDATED = [
  * Gives the new revision; that of the slots where nothing is changed.
  * @param {any} board
  * @param {Make} make
- * @param {ChangeOptions & { keys?: Map<string, string> }} options
+ * @param {ChangeOptions & { keys?: Map<string, string> }} asked
  * @returns {Promise<number>}
  */
-export async function change(board, make, { guard = "values", tries = TRIES, keys, ...options }) {
+export async function change(board, make, asked) {
+  checkOptions("change", asked, CHANGE, ["keys"]);
+  const { guard = "values", tries = TRIES, keys, ...options } = asked;
   checkGuard(guard);
   const own = { optimistic: true, ...options, silent: true };
   if (board.slots === null) await board.ready;
   /** @type {Made | null} */
   let made = null;
   try {
-    return await anew(board, tries, OUTDATED, async () => {
+    return await anew(board, tries, OUTDATED, async (sends) => {
       made = drafted(board, make, guard, keys);
       // A base is of what the relay showed, without the edits that wait.
       while (made?.isByBase && board.slots !== board.confirmed) {
         await board.quiet();
         made = drafted(board, make, guard, keys);
       }
+      sends();
       if (made === null) return board.rev;
       return board.edit(made.patch, made.isByBase ? { ...own, ...based(board) } : own);
     });

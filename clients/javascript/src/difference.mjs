@@ -121,7 +121,8 @@ class Difference {
     for (const kid of last) this.#pushElement(node, list, kid);
   }
 
-  // What was pushed comes to the end of the list, also where others have made that longer by then.
+  // The end of the list: what was pushed comes there, also where others have made that longer by
+  // then.
   /** @param {Node} node */
   #endOf(node) {
     const { pushed, seen } = this.#draft;
@@ -157,7 +158,7 @@ class Difference {
   }
 
   /**
-   * Whether a part goes to another container.
+   * True if a part goes to another container.
    * @param {Node} kid
    * @param {Node} node
    */
@@ -255,7 +256,7 @@ class Difference {
   }
 
   /**
-   * Where a part stands by now; null where it does not.
+   * The path at which a part stands by now; null where it stands nowhere.
    * @param {Node} kid
    * @returns {string[] | null}
    */

@@ -32,7 +32,7 @@ export class Draft {
   }
 
   /**
-   * What stands at a path.
+   * The part that stands at a path.
    * @param {readonly string[]} path
    */
   at(path) {
@@ -42,7 +42,7 @@ export class Draft {
   }
 
   /**
-   * What the application is given of a node.
+   * Returns what the application is given of a node.
    * @param {Node} node
    */
   of(node) {
@@ -216,7 +216,7 @@ function dropMember(draft, node, name) {
   node.members.delete(name);
 }
 
-// Where it may be a list, another place would stand for another element then.
+// Another place would stand for another element then, where it may be a list.
 /** @param {Node} node @param {string} name @param {boolean} isReplaced */
 function checkPlace(node, name, isReplaced) {
   if (!node.isPartial || isReplaced || (index(name) === null && name !== "-")) return;

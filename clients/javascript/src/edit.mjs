@@ -3,7 +3,8 @@
 // one is done. So is one with a counter, which tests that and raises it (once.mjs).
 import { Closed, Refused, Unknown } from "./errors.mjs";
 
-// How often an edit is sent at most: one that ends its connection each time has to come to an end.
+// The number of times that an edit is sent at most: one that ends its connection each time has to
+// come to an end.
 const SENDINGS = 5;
 
 /**
@@ -53,14 +54,14 @@ export class Edit {
     this.#on = on;
   }
 
-  /** What is sent. */
+  /** The message that is sent. */
   get request() {
     const own = this.#refusal ? [] : this.#own.patch;
     const patch = [...(this.#counter?.raise ?? []), ...own];
     return { do: "edit", base: this.#base, patch }; // without a base JSON leaves that out
   }
 
-  /** What is kept of it while it waits, so that another board can send it. */
+  /** The part of it that is kept while it waits, so that another board can send it. */
   get kept() {
     const once = this.#counter ? true : undefined;
     return { patch: this.#own.patch, base: this.#base, epoch: this.#epoch, once };
@@ -70,13 +71,13 @@ export class Edit {
     return this.#base !== undefined;
   }
 
-  /** Whether it does no harm when it is late: it has a base, or tests something first. */
+  /** True if it does no harm when it is late: it has a base, or tests something first. */
   get isGuarded() {
     return this.#hasBase || this.#own.patch[0]?.op === "test";
   }
 
   /**
-   * What has to be sent before it: nothing (null), a request, or `WAITS`.
+   * Returns what has to be sent before it: nothing (null), a request, or `WAITS`.
    * @param {Welcome} welcome
    */
   ahead(welcome) {

@@ -1,10 +1,10 @@
-// What is done to the elements of one list: by their places, or by a member that tells them apart.
+// Operations on the elements of one list: by their places, or by a member that tells them apart.
 import { Refused } from "./errors.mjs";
 import { isObject, same } from "./json.mjs";
 
 /**
- * Where an element is by now: the one that stood at a place when it was asked for, as far as its
- * value tells. The nearest one, if there are several.
+ * Finds where an element is by now: the one that stood at a place when it was asked for, as far as
+ * its value tells. The nearest one, if there are several.
  * @param {() => unknown} list what is shown
  * @param {number} at
  */
@@ -43,7 +43,7 @@ export class Keyed {
   }
 
   /**
-   * Where the element with a key is; -1 where it is not.
+   * The index of the element with a key; -1 where there is none.
    * @param {any} key
    */
   indexOf(key) {

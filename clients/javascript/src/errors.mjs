@@ -1,14 +1,32 @@
-// What a request can come to besides its answer.
+// The outcomes that a request can have besides its answer.
+import { ADVICE } from "./advice.mjs";
+
+// The kind that an error is of, whichever copy of this module made it: a program may have several,
+// as one by `import` and one by `require`.
+const KIND = Symbol.for("@bolsteregret/relay: error");
+
+/** An error that is an instance of the class of its kind in each copy. */
+class Failure extends Error {
+  /** @param {any} value */
+  static [Symbol.hasInstance](value) {
+    if (!Object.hasOwn(this.prototype, KIND)) return super[Symbol.hasInstance](value);
+    return value?.[KIND] === /** @type {any} */ (this.prototype)[KIND];
+  }
+}
 
 /** The relay refused a request, and nothing changed by it. */
-export class Refused extends Error {
+export class Refused extends Failure {
   name = "Refused";
+
+  get [KIND]() {
+    return "Refused";
+  }
 
   /**
    * @param {{ fault: string, at?: number | null, rev?: number | null }} reply
    * @param {string} [advice] what to do
    */
-  constructor({ fault, at = null, rev = null }, advice = "") {
+  constructor({ fault, at = null, rev = null }, advice = ADVICE[fault] ?? "") {
     const place = at === null ? "" : ` at ${at}`;
     const room = rev === null ? "" : `, the room is at revision ${rev}`;
     super(fault + place + room + (advice && `: ${advice}`));
@@ -19,8 +37,12 @@ export class Refused extends Error {
 }
 
 /** The answer was lost: the edit may have been done, or not; `rev` is the room's revision since. */
-export class Unknown extends Error {
+export class Unknown extends Failure {
   name = "Unknown";
+
+  get [KIND]() {
+    return "Unknown";
+  }
 
   /** @param {number | null} [rev] null where it may still be done */
   constructor(rev = null) {
@@ -31,20 +53,27 @@ export class Unknown extends Error {
 }
 
 /** The board was closed, and what was asked for was not sent. */
-export class Closed extends Error {
+export class Closed extends Failure {
   name = "Closed";
   message = "the board is closed";
+
+  get [KIND]() {
+    return "Closed";
+  }
 }
 
-/** @type {Record<number, string>} */
-const ADVICE = {
-  404: ": an address ends with /rooms/NAME",
-  503: ": it is full (--sessions, --rooms), --closed, or stopping",
-};
+const FULL = "it is full (--sessions, --rooms), --closed, or stopping";
 
-/** No connection could be made. The client goes on trying. */
-export class HandshakeFailed extends Error {
+/**
+ * No connection could be made. The client goes on trying, unless the first answer is a 404: then
+ * the address is none of a room.
+ */
+export class HandshakeFailed extends Failure {
   name = "HandshakeFailed";
+
+  get [KIND]() {
+    return "HandshakeFailed";
+  }
 
   /**
    * @param {"refused" | "unreachable"} reason
@@ -60,11 +89,29 @@ export class HandshakeFailed extends Error {
 
 /** @param {string} url @param {number | null} status */
 function refusal(url, status) {
-  const answer = status === null ? "" : `, with ${status}${ADVICE[status] ?? ""}`;
-  return `${url} refuses the connection${answer}`;
+  const refuses = `${url} refuses the connection`;
+  if (status === 404) return `${refuses}, with 404: ${wrongAddress(url) ?? NO_ROOMS}`;
+  if (status === 503) return `${refuses}, with 503: ${FULL}`;
+  if (status !== null) return `${refuses}, with ${status}`;
+  // A page of another origin is not told the status.
+  return `${refuses}: ${wrongAddress(url) ?? `${FULL}, or what answers is no relay`}`;
+}
+
+const NO_ROOMS = "what answers there has no rooms, or none to watch only";
+
+/**
+ * Tells what is wrong with an address, as far as it shows; null where nothing is.
+ * @param {string} url
+ */
+function wrongAddress(url) {
+  const { pathname, search } = new URL(url, globalThis.location?.href);
+  if (!/^\/rooms\/[\w-]+(\/watch)?$/.test(pathname)) {
+    return `a room is at /rooms/NAME, and this path is ${pathname}`;
+  }
+  return search === "" ? null : "leave out the `?` and what follows";
 }
 
 /** @param {string} url */
 function silence(url) {
-  return `nothing answers at ${url}: start the relay there, or connect to where it listens`;
+  return `nothing answers at ${url}: start the relay there, or check the address and the port`;
 }

@@ -2,7 +2,7 @@
 // (docs/PROTOCOL.md, "What a client does").
 import { Closed, Refused } from "./errors.mjs";
 import { applied } from "./known.mjs";
-import { checked } from "./json.mjs";
+import { checked, frozen } from "./json.mjs";
 
 /**
  * @typedef {import("./link.mjs").Link} Link
@@ -92,13 +92,12 @@ export class Follower {
   told(message) {
     if (message.kind === "patch") this.#follow(message);
     else if (Array.isArray(message.view) && message.view.length === this.#taken?.view.length) {
-      this.#take(message.rev, message.view, null);
+      this.#take(message.rev, frozen(message.view), null);
     } else this.astray();
   }
 
   /**
-   * What is held may be wrong: the slots are asked for anew, by a connection that has nothing to
-   * resume.
+   * Asks for the slots anew, by a connection that has nothing to resume: what is held may be wrong.
    */
   astray() {
     this.#held = { ...this.#held, number: -1 };

@@ -12,7 +12,7 @@ import { spelled, startsWith } from "./pointer.mjs";
 // An edit has no more operations.
 const OPERATIONS = 64;
 
-// Where tests would take more characters, the revision is tested in their place.
+// The revision is tested in place of tests that would take more characters.
 const TESTS = 16_384;
 
 /**

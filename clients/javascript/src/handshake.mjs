@@ -1,18 +1,55 @@
-// Why a handshake failed. A WebSocket does not say it, so the same address is asked by HTTP.
+// Finds why a handshake failed. A WebSocket does not say it, so the same address is asked by HTTP.
+//
+// For each question that fails Chromium writes a line to the console, beside the one that it writes
+// for the socket. So in a browser an answer holds for a while, and most tries write one line.
 import { HandshakeFailed } from "./errors.mjs";
 
-// What the relay answers a request that is no handshake, where the room's name is good.
+// The status by which the relay answers a request that is no handshake, where the room's name is
+// good.
 const NO_HANDSHAKE = 400;
 const NO_PLACE = 503;
 const LONGEST = 2000;
 
+// For how long an answer holds in a browser, in milliseconds.
+const HOLDS = 30_000;
+
+export class Failures {
+  #url;
+  /** @type {HandshakeFailed | null} */
+  #last = null;
+  #asked = 0; // when
+
+  /** @param {string} url of the room, as `ws://HOST/rooms/NAME` */
+  constructor(url) {
+    this.#url = url;
+  }
+
+  /**
+   * Tells why the newest handshake failed.
+   * @param {{ message?: string } | null} event of the socket
+   */
+  async newest(event) {
+    const isKept = globalThis.location !== undefined && Date.now() - this.#asked < HOLDS;
+    if (this.#last === null || !isKept) {
+      this.#asked = Date.now();
+      this.#last = await failure(this.#url, event);
+    }
+    return this.#last;
+  }
+
+  /** A handshake succeeded. */
+  end() {
+    this.#last = null;
+  }
+}
+
 /**
  * `refused` with a status where the platform tells one; a page of another origin is only told that
  * something answers.
- * @param {string} url of the room, as `ws://HOST/rooms/NAME`
- * @param {{ message?: string } | null} event of the socket
+ * @param {string} url
+ * @param {{ message?: string } | null} event
  */
-export async function failure(url, event) {
+async function failure(url, event) {
   const told = /\b[45]\d\d\b/.exec(event?.message ?? "");
   if (told) return new HandshakeFailed("refused", url, Number(told[0]));
   const ending = new AbortController();
@@ -20,10 +57,10 @@ export async function failure(url, event) {
   try {
     const { location } = globalThis;
     const address = new URL(url.replace(/^ws/, "http"), location?.href);
-    const mode = location && location.origin !== address.origin ? "no-cors" : "cors";
+    const isForeign = location !== undefined && location.origin !== address.origin;
     const { status } = await fetch(address, {
-      mode,
-      redirect: "manual",
+      // Chromium asks nothing of another origin by `no-cors` unless it may follow.
+      ...(isForeign ? { mode: "no-cors", redirect: "follow" } : { redirect: "manual" }),
       cache: "no-store",
       signal: ending.signal,
     });
@@ -36,13 +73,29 @@ export async function failure(url, event) {
 }
 
 /**
- * Fails with a `RangeError` where the last part of a path is no room's name (docs/PROTOCOL.md,
- * "Scripts").
+ * Fails with a `RangeError` where a path does not end with a room's name (docs/PROTOCOL.md,
+ * "Scripts"). What stands before it is a proxy's concern.
  * @param {string} url
  */
 export function checkRoom(url) {
-  const name = new URL(url, globalThis.location?.href).pathname.split("/").at(-1) ?? "";
+  const { pathname } = parsed(url);
+  const [rooms, name = ""] = pathname.split("/").slice(-2);
+  if (rooms !== "rooms") {
+    const isWatch = /\/rooms\/[\w-]+\/watch$/.test(pathname);
+    if (isWatch) throw new RangeError("leave out `/watch`, and use the option `readOnly`");
+    throw new RangeError(`an address ends with /rooms/NAME, and this path is ${pathname}`);
+  }
   if (!/^[\w-]{1,64}$/.test(name)) {
     throw new RangeError(`"${name}" is no room's name: 1 to 64 ASCII letters, digits, "-" and "_"`);
+  }
+}
+
+/** @param {string} url */
+function parsed(url) {
+  try {
+    return new URL(url, globalThis.location?.href);
+  } catch {
+    const example = "ws://127.0.0.1:8080/rooms/NAME";
+    throw new TypeError(`${JSON.stringify(url)} is no address of a room, as ${example}`);
   }
 }

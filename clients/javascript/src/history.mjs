@@ -1,4 +1,4 @@
-// What this client did and can take back, and what it took back and can do again.
+// The edits that this client did and can take back, and those that it took back and can do again.
 
 /** @typedef {import("./inverse.mjs").Inverse} Inverse */
 /** @typedef {"edit" | "undo" | "redo"} Role */
@@ -21,7 +21,7 @@ export class History {
   }
 
   /**
-   * What takes back an edit that was done.
+   * Records what takes back an edit that was done.
    * @param {Role} role Why it was made.
    * @param {Inverse} inverse
    */

@@ -1,5 +1,5 @@
-// What a client says and hears, for whoever looks for a mistake: a class of sockets to connect
-// with.
+// Shows what a client says and hears, for whoever looks for a mistake: a class of sockets to
+// connect with.
 
 /**
  * @param {(told: { way: "sent" | "heard", message: any }) => void} tell of each text, in order

@@ -1,5 +1,5 @@
-// What takes a patch back, as far as the slots tell: each operation backwards, behind tests that
-// nobody changed since what it did.
+// Takes a patch back, as far as the slots tell: each operation backwards, behind tests that nobody
+// changed since what it did.
 import { spelled, startsWith, tokens } from "./pointer.mjs";
 import { Draft, placeOf, read } from "./known.mjs";
 import { Misfit } from "./patch.mjs";
@@ -35,7 +35,7 @@ export function inverse(whole, patch) {
 }
 
 /**
- * Whether an inverse can be done, and puts no member where one may stand.
+ * True if an inverse can be done, and puts no member where one may stand.
  * @param {Part} whole What is known before it.
  * @param {readonly Operation[]} patch
  */
@@ -65,7 +65,7 @@ function newMembers(whole, patch) {
 }
 
 /**
- * What takes an operation back, which is done.
+ * The operations that take back an operation that is done.
  * @param {Draft} draft
  * @param {Operation} operation
  * @returns {Operation[]}
@@ -139,7 +139,8 @@ function removedBack(draft, path) {
   return place.list ? [...neighbours(draft, place), add] : [add];
 }
 
-// Where an element was removed from a list: between the same two, or in a list that is empty.
+// The place at which an element was removed from a list: between the same two, or in a list that is
+// empty.
 /**
  * @param {Draft} draft
  * @param {{ path: readonly string[], holder: Part | null, at: number | null }} place

@@ -56,7 +56,7 @@ function wrong(path, words) {
 }
 
 /**
- * What a text says; null where it is no JSON.
+ * The value that a text says; null where it is no JSON.
  * @param {string} text
  * @returns {any}
  */
@@ -69,7 +69,24 @@ export function parsed(text) {
 }
 
 /**
- * Whether a value has members, and so is no list.
+ * The value itself, to which nobody can write from then on. What is frozen already is so as deep as
+ * it goes, so of a value that has new parts only those cost anything.
+ * @template T
+ * @param {T} value
+ * @returns {T}
+ */
+export function frozen(value) {
+  if (typeof value !== "object" || value === null || Object.isFrozen(value)) return value;
+  Object.freeze(value);
+  const isList = Array.isArray(value);
+  for (const part of isList ? value : Object.values(value)) {
+    if (typeof part === "object") frozen(part);
+  }
+  return value;
+}
+
+/**
+ * True if a value has members, and so is no list.
  * @param {unknown} value
  * @returns {value is Record<string, any>}
  */
@@ -78,7 +95,7 @@ export function isObject(value) {
 }
 
 /**
- * Whether two values are equal as RFC 6902, section 4.6, says.
+ * True if two values are equal as RFC 6902, section 4.6, says.
  * @param {Json} one
  * @param {Json} other
  * @returns {boolean}

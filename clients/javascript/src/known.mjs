@@ -1,9 +1,9 @@
-// What a client knows of the document by its slots, and of the documents to which its own patches
+// A client's knowledge of the document by its slots, and of the documents to which its own patches
 // lead: some values are known, some places are known to be empty, and of the rest nothing is known.
 // What an operation means to a slot (docs/PROTOCOL.md, "What a change means to a slot") follows:
 // the operation is done on what is known, and the slots are read again.
 import { index, tokens } from "./pointer.mjs";
-import { same } from "./json.mjs";
+import { frozen, same } from "./json.mjs";
 import { Misfit, Owned, added, checkMove, has, removed, replaced } from "./patch.mjs";
 
 /**
@@ -31,7 +31,7 @@ export function pathOf(shown) {
 }
 
 /**
- * What slots tell of their document.
+ * Returns what slots tell of their document.
  * @param {readonly Shown[]} view
  * @param {readonly Slot[]} slots
  */
@@ -94,7 +94,7 @@ function laid(whole, path, change) {
 }
 
 /**
- * Whether a part is a list, or null where that is not known.
+ * True if a part is a list, or null where that is not known.
  * @param {Part} part
  * @returns {boolean | null}
  */
@@ -107,7 +107,7 @@ function isList(part) {
 }
 
 /**
- * Whether a part is known to be there. A container of which only absent children are known may be
+ * True if a part is known to be there. A container of which only absent children are known may be
  * absent itself.
  * @param {Part} part
  * @returns {boolean}
@@ -120,7 +120,7 @@ function isThere(part) {
 }
 
 /**
- * Whether a part is known to have more behind an index, if it is a list.
+ * True if a part is known to have more behind an index, if it is a list.
  * @param {Part} part
  * @param {number} at
  */
@@ -150,7 +150,7 @@ export function placeOf(whole, path) {
 }
 
 /**
- * What is known after one operation. Fails with `Misfit` where it is known to be refused.
+ * Returns what is known after one operation. Fails with `Misfit` where it is known to be refused.
  * @param {Part} whole
  * @param {Operation} operation
  */
@@ -158,10 +158,14 @@ export function after(whole, operation) {
   return afterAll(whole, [operation]);
 }
 
-/** @param {Part} whole @param {readonly Operation[]} patch */
+/**
+ * The same after a patch. Nobody can write to the values that are new.
+ * @param {Part} whole @param {readonly Operation[]} patch
+ */
 export function afterAll(whole, patch) {
   const draft = new Draft(whole);
   for (const operation of patch) draft.do(operation);
+  draft.freeze();
   return draft.whole;
 }
 
@@ -176,8 +180,8 @@ export function applied(value, patch) {
 }
 
 /**
- * What is known while a patch is done, operation by operation, on values that the draft alone has:
- * so it copies each container once.
+ * Holds what is known while a patch is done, operation by operation, on values that the draft alone
+ * has: so it copies each container once.
  */
 export class Draft {
   #owned = new Owned();
@@ -208,11 +212,11 @@ export class Draft {
     const path = tokens(operation.path);
     switch (operation.op) {
       case "add":
-        return this.#put(path, known(operation.value), puts);
+        return this.#put(path, known(frozen(operation.value)), puts);
       case "remove":
         return this.#take(path);
       case "replace":
-        this.whole = exchanged(this.whole, path, known(operation.value), this.#owned);
+        this.whole = exchanged(this.whole, path, known(frozen(operation.value)), this.#owned);
         return;
       case "test":
         return tested(this.whole, path, operation.value);
@@ -223,6 +227,11 @@ export class Draft {
       default:
         throw new TypeError(`no operation: ${/** @type {any} */ (operation).op}`);
     }
+  }
+
+  /** The patch has ended. */
+  freeze() {
+    this.#owned.freeze();
   }
 
   /** @param {readonly string[]} path @param {Part} part @param {() => void} puts */
@@ -379,10 +388,12 @@ function dropped(holder, token) {
  * @returns {S[]}
  */
 export function slotsOf(whole, view, before) {
-  return view.map((shown, k) => {
+  const slots = view.map((shown, k) => {
     const slot = slotOf(whole, shown);
-    return /** @type {any} */ (slot === null || equal(slot, before[k]) ? before[k] : slot);
+    const isKept = slot === null || equal(slot, before[k]);
+    return /** @type {any} */ (isKept ? before[k] : Object.freeze(slot));
   });
+  return /** @type {S[]} */ (Object.freeze(slots));
 }
 
 /** @param {Slot} one @param {Slot} other */
@@ -391,7 +402,7 @@ function equal(one, other) {
 }
 
 /**
- * What one slot shows; null where that is not known.
+ * Returns what one slot shows; null where that is not known.
  * @param {Part} whole
  * @param {Shown} shown
  * @returns {Slot | null}

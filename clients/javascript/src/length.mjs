@@ -1,4 +1,4 @@
-// How long a text is that is sent, as the relay counts it.
+// The length of a text that is sent, as the relay counts it.
 
 // Bytes of UTF-8. A longer text ends its connection without an answer, each time that it is sent.
 const LONGEST = 1_056_768;

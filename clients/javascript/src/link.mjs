@@ -2,7 +2,7 @@
 // order.
 import { HandshakeFailed } from "./errors.mjs";
 import { endsConnection } from "./length.mjs";
-import { failure } from "./handshake.mjs";
+import { Failures } from "./handshake.mjs";
 import { parsed } from "./json.mjs";
 import { overlap } from "./pointer.mjs";
 import { WAITS } from "./once.mjs";
@@ -15,13 +15,16 @@ const ON_THE_WAY = 31;
 // answered meanwhile comes behind it.
 const SNAPSHOT = 6;
 
-// How often patience is doubled at most, since connections were given up.
+// The number of times that patience is doubled at most, since connections were given up.
 const DOUBLINGS = 3;
+
+// As what answers says that there is no room at the address.
+const NO_ROOM = 404;
 
 // As the relay refuses a text that it still reads.
 const TOO_LONG = { kind: "refused", fault: "too-long", at: null };
 
-// What answers a request. The welcome does not.
+// The messages that answer a request. The welcome does not.
 const REPLIES = ["done", "refused", "watching", "resumed", "willing"];
 
 /**
@@ -46,6 +49,7 @@ const REPLIES = ["done", "refused", "watching", "resumed", "willing"];
  *   told: (message: any) => void,
  *   astray: () => void,
  *   lost: (cause: Error | null) => void,
+ *   refused: (cause: Error) => void,
  *   connecting: () => void,
  *   waiting: (asked: Asked[]) => void,
  * }} Hearer
@@ -80,6 +84,8 @@ export class Link {
   /** @type {ReturnType<typeof setTimeout> | undefined} */
   #patience;
   #closed = false;
+  #failed;
+  #wasEntered = false; // by any connection
   /** @type {Asked | undefined} */
   will; // that the relay took last: it goes with its connection, so the next one leaves it again
 
@@ -88,6 +94,7 @@ export class Link {
     this.#url = url;
     this.#options = options;
     this.#on = on;
+    this.#failed = new Failures(url);
   }
 
   /** Of this connection; null while there is none. */
@@ -190,12 +197,14 @@ export class Link {
     if (event instanceof HandshakeFailed) return this.#wait(event);
     // Not within the promise, so that what an application's function throws is reported as it is
     // elsewhere.
-    failure(this.#url, event).then((cause) => queueMicrotask(() => this.#wait(cause)));
+    this.#failed.newest(event).then((cause) => queueMicrotask(() => this.#wait(cause)));
   }
 
-  /** @param {Error | null} cause */
+  /** @param {HandshakeFailed | null} cause */
   #wait(cause) {
     if (this.#closed) return;
+    // Once a room was entered there, the answer may be that of a proxy that is being set up anew.
+    if (cause?.status === NO_ROOM && !this.#wasEntered) return this.#on.refused(cause);
     const { firstWait, longestWait } = this.#options;
     const wait = Math.min(firstWait * 2 ** this.#failures, longestWait) * (0.5 + Math.random() / 2);
     this.#failures += 1;
@@ -304,7 +313,9 @@ export class Link {
   /** @param {Welcome} welcome */
   #enter(welcome) {
     this.#welcome = welcome;
+    this.#wasEntered = true;
     this.#failures = 0;
+    this.#failed.end();
     clearTimeout(this.#patience);
     if (this.will) this.askFirst(this.will);
     this.#on.entered(welcome);

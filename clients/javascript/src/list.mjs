@@ -1,4 +1,4 @@
-// What is done to a list of a draft. What hangs on the whole list, as its length, has it noted as
+// Operations on a list of a draft. What hangs on the whole list, as its length, has it noted as
 // seen; what hangs on one element, that one.
 
 /**
@@ -96,7 +96,7 @@ function searches(own) {
 }
 
 /**
- * Where `splice` begins, and how many it takes, as `Array` has it.
+ * The index at which `splice` begins, and the number that it takes, as `Array` has it.
  * @param {any[]} asked
  * @param {number} length
  * @param {() => void} all
@@ -125,7 +125,7 @@ function replaceAt(draft, node, start, count, made) {
   return taken.map((kid) => draft.of(kid));
 }
 
-// What is put in is put in front of an element or behind one, but at the start.
+// Elements that are put in are put in front of one or behind one, but at the start.
 /** @param {Draft} draft @param {Node} node @param {number} start @param {number} end */
 function neighbour(draft, node, start, end) {
   const { list } = node;

@@ -1,4 +1,4 @@
-// Which elements of a list are those of another one: the same parts, and values that are equal.
+// The elements of a list that are those of another one: the same parts, and values that are equal.
 
 /** @typedef {import("./node.mjs").Node} Node */
 
@@ -35,7 +35,7 @@ export function matched(list, goal, isFree) {
   return by;
 }
 
-// What was looked into may have lost something by then, so it stands for no value.
+// A part that was looked into may have lost something by then, so it stands for no value.
 /** @param {Node} kid */
 function text(kid) {
   return kid.origin !== null && kid.isOpen ? null : JSON.stringify(kid.value);

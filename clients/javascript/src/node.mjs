@@ -44,12 +44,12 @@ export class Node {
     return this.#kids !== null || this.isPartial || isObject;
   }
 
-  /** Whether it was looked into, so that something in it may be another one. */
+  /** True if it was looked into, so that something in it may be another one. */
   get isOpen() {
     return this.#kids !== null;
   }
 
-  /** What stood there. */
+  /** The value that stood there. */
   get seen() {
     return this.part.is === "value" ? this.part.value : undefined;
   }
@@ -63,13 +63,13 @@ export class Node {
     this.#kids = kids;
   }
 
-  /** What stood in it; nothing, if it was put in. */
+  /** The parts that stood in it; none, if it was put in. */
   get before() {
     return this.#before ?? (this.isList ? [] : new Map());
   }
 
   /**
-   * What stood at a name.
+   * The part that stood at a name.
    * @param {string} name
    */
   memberBefore(name) {
@@ -115,7 +115,7 @@ export class Node {
   }
 
   /**
-   * What it is now, as JSON.
+   * The value that it is now, as JSON.
    * @returns {any}
    */
   get value() {

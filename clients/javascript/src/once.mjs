@@ -9,7 +9,7 @@ import { Refused } from "./errors.mjs";
 import { newId } from "./id.mjs";
 import { spelled, tokens } from "./pointer.mjs";
 
-/** What is ahead of an edit that has to wait. */
+/** Stands ahead of an edit that has to wait. */
 export const WAITS = Symbol("waits");
 
 /**
@@ -36,7 +36,7 @@ export class Counter {
   }
 
   /**
-   * What has to be sent before an edit: nothing (null), a request, or `WAITS`.
+   * Returns what has to be sent before an edit: nothing (null), a request, or `WAITS`.
    * @param {Edit} edit
    * @param {Welcome} welcome of the connection
    */
@@ -84,7 +84,7 @@ export class Counter {
   }
 
   /**
-   * What the counter is after an edit is not known: the next edit has another one.
+   * The counter after an edit is not known: the next edit has another one.
    * @param {Edit} edit
    */
   lost(edit) {

@@ -31,7 +31,7 @@ export class Overlay {
   /** @type {{ slots: readonly Slot[] | null, whole: Part } | null} */
   #base = null; // what the slots that the relay showed tell, made once for each
 
-  /** How many edits are laid over. */
+  /** The number of edits that are laid over. */
   get pending() {
     return this.#edits.filter(({ optimistic }) => optimistic).length;
   }
@@ -99,7 +99,7 @@ export class Overlay {
     return /** @type {{ whole: Part }} */ (this.#base).whole;
   }
 
-  // Whether a patch will come for an edit that was done: of one that only might touch a slot none
+  // True if a patch will come for an edit that was done: of one that only might touch a slot none
   // may ever come.
   /** @param {Unconfirmed} edit @param {Held} held */
   #willShow(edit, held) {
@@ -147,8 +147,8 @@ function folded(whole, edits) {
   }, whole);
 }
 
-// What was laid over the same once is not made again, so slots stay the same values where nothing
-// changed.
+// An edit that was laid over the same once is not laid again, so slots stay the same values where
+// nothing changed.
 /**
  * @param {{ whole: Part, shown: readonly Slot[] }} below
  * @param {Unconfirmed} edit

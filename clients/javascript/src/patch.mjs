@@ -23,7 +23,7 @@ export class Owned {
   writable(part) {
     if (typeof part !== "object" || part === null) throw new Misfit();
     if (this.#made.has(part)) return part;
-    const copy = Array.isArray(part) ? part.slice() : { ...part };
+    const copy = Array.isArray(part) ? [...part] : { ...part }; // of a frozen list `slice` is slow
     this.#made.add(copy);
     return copy;
   }
@@ -36,7 +36,14 @@ export class Owned {
    */
   share(part) {
     if (!this.#made.delete(part)) return;
+    Object.freeze(part);
     for (const inner of Object.values(part)) this.share(inner);
+  }
+
+  /** Nobody writes to what the patch made any more. */
+  freeze() {
+    for (const part of this.#made) Object.freeze(part);
+    this.#made.clear();
   }
 }
 

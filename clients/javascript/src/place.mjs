@@ -2,6 +2,7 @@
 // it.
 import { Closed, Refused } from "./errors.mjs";
 import { Keyed, followed, shown } from "./elements.mjs";
+import { checkFunction, checkOptions } from "./options.mjs";
 import { spelled, startsWith, tokens } from "./pointer.mjs";
 import { has } from "./patch.mjs";
 import { same } from "./json.mjs";
@@ -15,11 +16,13 @@ import { same } from "./json.mjs";
  * subscribe: Subscribe }} Source
  */
 
-// How often `update` tries, if nothing is said.
+const SET = ["parents", "base", "epoch", "optimistic", "undo", "once"];
+
+// The number of times that `update` tries, if nothing is said.
 const TRIES = 20;
 
-// How long the second try waits at most, in milliseconds; each further one up to twice as long, so
-// that many who count take turns.
+// The milliseconds that the second try waits at most; each further one up to twice as long, so that
+// many who count take turns.
 const PAUSE = 10;
 const LONGEST_PAUSE = 500;
 
@@ -42,12 +45,12 @@ export class Place {
     this.subscribe = this.subscribe.bind(this);
   }
 
-  /** What stands there; undefined where nothing does, or before the first slots. */
+  /** The value that stands there; undefined where nothing does, or before the first slots. */
   get value() {
     return this.#slot(this.#source.slots)[0];
   }
 
-  /** What stands there as the relay showed it, without edits that wait. */
+  /** The value that stands there as the relay showed it, without edits that wait. */
   get confirmed() {
     return this.#slot(this.#source.confirmed)[0];
   }
@@ -70,6 +73,7 @@ export class Place {
    * @returns {Promise<number>}
    */
   set(value, asked = {}) {
+    checkOptions("set", asked, SET);
     const { parents = false, ...options } = asked;
     const { slots } = this.#source;
     if (slots === null) throw new Error("the slots are not there yet");
@@ -94,7 +98,7 @@ export class Place {
     return this.#compareAndSet(make, TRIES, options);
   }
 
-  // How many containers around it are not there, as far as the view shows them.
+  // The number of containers around it that are not there, as far as the view shows them.
   /** @param {Slots} slots */
   #missing(slots) {
     const cover = this.#cover();
@@ -110,7 +114,10 @@ export class Place {
    * @param {{ tries?: number, undo?: boolean }} options
    * @returns {Promise<number>}
    */
-  update(change, { tries = TRIES, undo = true } = {}) {
+  update(change, options = {}) {
+    checkFunction("update", change);
+    checkOptions("update", options, ["tries", "undo"]);
+    const { tries = TRIES, undo = true } = options;
     const make = () => {
       const slot = this.#slot(this.#source.confirmed);
       const value = change(slot[0]);
@@ -235,27 +242,31 @@ function part(slot, token) {
  * @returns {Promise<number>}
  */
 export function compareAndSet(board, tries, make, edit) {
-  return anew(board, tries, ["stale"], async () => {
+  return anew(board, tries, ["stale"], async (sends) => {
     const patch = make();
+    sends();
     return patch === null ? board.rev : edit(patch, { base: board.rev, epoch: board.epoch });
   });
 }
 
 /**
- * Tries again as long as it is refused by one of these faults, on what is shown by then.
+ * Tries again as long as it is refused by one of these faults, on what is shown by then. What this
+ * client refuses before it sends anything, as a key that no element has, is tried once more: from
+ * then on the slots are of the room's revision, and would show the same.
  * @param {any} board
  * @param {number} tries
  * @param {readonly string[]} faults
- * @param {() => Promise<number>} attempt
+ * @param {(sends: () => void) => Promise<number>} attempt tells when it begins to send
  */
 export async function anew(board, tries, faults, attempt) {
   for (let tried = 1; ; tried += 1) {
     if (board.state === "closed") throw new Closed();
+    let isSent = false;
     try {
-      return await attempt();
+      return await attempt(() => void (isSent = true));
     } catch (error) {
       const isOutdated = error instanceof Refused && faults.includes(error.fault);
-      if (!isOutdated || tried >= tries) throw error;
+      if (!isOutdated || tried >= tries || (tried > 1 && !isSent)) throw error;
     }
     if (tried > 1) await pause(tried);
     // An edit elsewhere leaves the slots' revision behind the room's: only slots that come anew are

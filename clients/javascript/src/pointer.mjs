@@ -43,7 +43,7 @@ export function index(token) {
 }
 
 /**
- * Whether one of two pointers leads to the other's value or into it.
+ * True if one of two pointers leads to the other's value or into it.
  * @param {string} one
  * @param {string} other
  */
@@ -52,7 +52,7 @@ export function overlap(one, other) {
 }
 
 /**
- * Whether a path is another one, or leads into its value.
+ * True if a path is another one, or leads into its value.
  * @param {readonly string[]} path
  * @param {readonly string[]} start
  */

@@ -1,6 +1,6 @@
-// Who is here: an entry of this client in an object of the document. A will takes it away when the
-// session ends, however it ends. A relay that knows no wills is told by renewals in its place
-// (renewal.mjs).
+// Tells who is here: an entry of this client in an object of the document. A will takes it away
+// when the session ends, however it ends. A relay that knows no wills is told by renewals in its
+// place (renewal.mjs).
 //
 // The will is left before the entry is written, so that no entry is ever there without one. It
 // tests which session wrote the entry: where a later session of this client is here already, the
@@ -8,14 +8,15 @@
 import { Closed, Refused, Unknown } from "./errors.mjs";
 import { Renewal } from "./renewal.mjs";
 import { newId } from "./id.mjs";
+import { checkOptions } from "./options.mjs";
 import { checked, isObject } from "./json.mjs";
 import { spelled, tokens } from "./pointer.mjs";
 
 /** @typedef {{ session: string, beat?: number } & Record<string, unknown>} Entry */
 /** @typedef {{ resolve: () => void, reject: (cause: unknown) => void }} Waiter */
 
-// What the client does by itself: nothing to be undone, and nothing to tell the application of
-// where it is refused.
+// The options of what the client does by itself: nothing to be undone, and nothing to tell the
+// application of where it is refused.
 const BY_ITSELF = { optimistic: true, undo: false, silent: true };
 
 export class Presence {
@@ -53,9 +54,10 @@ export class Presence {
     this.#entry = checked(entry);
     this.#renewal = new Renewal(options, () => this.#enter());
     this.ready = this.#here();
+    // First, since it fails where the view does not show the place.
+    const values = this.#place.subscribe(() => this.#returned());
     const states = board.states((/** @type {string} */ state) => this.#turned(state));
     const changes = board.subscribe(() => this.#changed());
-    const values = this.#place.subscribe(() => this.#returned());
     this.#ends = [() => this.#renewal.end(), states, changes, values];
     this.#turned(board.state);
   }
@@ -106,7 +108,7 @@ export class Presence {
     return this.#path + spelled([this.#id]);
   }
 
-  // Whether the entry was written by the present session.
+  // True if the entry was written by the present session.
   get #isHere() {
     return this.#session !== "" && this.#written === this.#session;
   }
@@ -137,8 +139,8 @@ export class Presence {
     else this.#enter();
   }
 
-  // Where the entry could not be written, as in a room that has not begun, another document is
-  // another try.
+  // Another document is another try where the entry could not be written, as in a room that has not
+  // begun.
   #changed() {
     if (!this.#isHere && this.#board.confirmed !== this.#failedOn) this.#enter();
   }
@@ -240,15 +242,16 @@ export class Presence {
 
 /** @param {unknown} value @returns {Record<string, Entry>} */
 function entries(value) {
-  if (!isObject(value)) return {};
-  return Object.fromEntries(Object.entries(value).filter(([, entry]) => isObject(entry)));
+  const own = isObject(value) ? Object.entries(value) : [];
+  return Object.freeze(Object.fromEntries(own.filter(([, entry]) => isObject(entry))));
 }
 
 /**
  * @param {any} board @param {string} path @param {object} entry
  * @param {{ id?: string, every?: number, gone?: number }} [options]
  */
-export function presence(board, path, entry, options) {
+export function presence(board, path, entry, options = {}) {
   tokens(path);
+  checkOptions("presence", options, ["id", "every", "gone"]);
   return new Presence(board, path, entry, options);
 }

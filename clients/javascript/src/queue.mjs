@@ -25,7 +25,7 @@ export class Queue {
   }
 
   /**
-   * Whether an edit may wait for the connection to come back.
+   * True if an edit may wait for the connection to come back.
    * @param {Edit} edit
    */
   takes(edit) {
@@ -41,8 +41,8 @@ export class Queue {
   }
 
   /**
-   * What an earlier page left, in its order. What no page leaves, as another program may, is
-   * nothing.
+   * The edits that an earlier page left, in its order. What no page leaves, as another program may,
+   * is nothing.
    * @returns {Kept[]}
    */
   left() {

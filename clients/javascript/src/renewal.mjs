@@ -1,4 +1,4 @@
-// Who is here, told to a relay that knows no wills: each entry is renewed while its client is here,
+// Tells who is here to a relay that knows no wills: each entry is renewed while its client is here,
 // and whoever sees that one was not renewed takes it away. Each renewal is an edit: a revision,
 // told to every watcher of the object.
 
@@ -29,7 +29,7 @@ export class Renewal {
     this.#timer = undefined;
   }
 
-  /** What an entry has besides. */
+  /** The members that an entry has besides. */
   get mark() {
     if (this.#timer === undefined) return {};
     this.#beat += 1;

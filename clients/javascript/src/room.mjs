@@ -4,6 +4,7 @@ import { Board } from "./board.mjs";
 import { Place } from "./place.mjs";
 import { Places } from "./places.mjs";
 import { pathOf } from "./known.mjs";
+import { checkView } from "./options.mjs";
 import { same } from "./json.mjs";
 
 /** @typedef {import("../relay.js").Shown} Shown */
@@ -24,13 +25,14 @@ export class Room {
     this.#options = { ...options, onConnections };
   }
 
-  /** How many connections the views take: one, until they have more than 16 slots. */
+  /** The number of connections that the views take: one, until they have more than 16 slots. */
   get connections() {
     return this.#boards.length;
   }
 
   /** @param {readonly Shown[]} pointers */
   view(pointers) {
+    checkView("view", pointers);
     if (pointers.length > SLOTS) throw new RangeError(`a view has at most ${SLOTS} slots`);
     pointers.forEach(pathOf);
     const shared =
@@ -93,8 +95,8 @@ class Shared {
     this.#views.delete(view);
   }
 
-  // What nobody shows any more is watched as long as there is room for it, so that no slots are
-  // asked for anew.
+  // Pointers that nobody shows any more are watched as long as there is room for it, so that no
+  // slots are asked for anew.
   /** @param {readonly Shown[]} pointers */
   #with(pointers) {
     const shown = distinct([...this.#views.values(), pointers].flat());
@@ -108,8 +110,8 @@ function distinct(all) {
   return all.filter((shown, k) => all.findIndex((other) => same(other, shown)) === k);
 }
 
-// What one part of a page shows. Its edits, and what of them waits or is undone, are those of its
-// connection.
+// The slots that one part of a page shows. Its edits, and what of them waits or is undone, are
+// those of its connection.
 class SharedBoard {
   #shared;
   #pointers;
@@ -141,7 +143,7 @@ class SharedBoard {
     return this.#seen.own;
   }
 
-  /** What the relay showed of them. */
+  /** The slots as the relay showed them. */
   get confirmed() {
     return this.#own(this.#shared.board.confirmed);
   }
@@ -179,7 +181,7 @@ class SharedBoard {
       this.#pointers.map(
         (shown) => slots[view.findIndex((/** @type {Shown} */ other) => same(other, shown))],
       );
-    return own === null || own.includes(undefined) ? null : own;
+    return own === null || own.includes(undefined) ? null : Object.freeze(own);
   }
 
   // The same list as before where no slot of this view changed.

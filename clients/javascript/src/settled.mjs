@@ -64,7 +64,7 @@ function live(draft) {
 }
 
 /**
- * Whether at least half of it is the same.
+ * True if at least half of it is the same.
  * @param {Node} before
  * @param {Node} kid
  */
@@ -91,7 +91,7 @@ function copied(draft, kid) {
   return new Node({ is: "value", value: kid.value }, null);
 }
 
-// What stands in a value that was put in is told with it.
+// Tells, with a value that was put in, what stands in it.
 /** @param {Draft} draft @param {Node} kid @returns {Node} */
 function toldBy(draft, kid) {
   if (!kid.isOpen) return kid;

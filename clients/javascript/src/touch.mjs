@@ -1,5 +1,5 @@
-// Which changes surely touch a slot (docs/PROTOCOL.md, "What a change means to a slot"): of those
-// the relay tells a watcher.
+// Finds changes that surely touch a slot (docs/PROTOCOL.md, "What a change means to a slot"): of
+// those the relay tells a watcher.
 import { index, startsWith, tokens } from "./pointer.mjs";
 import { Draft, goesOn, pathOf, placeOf, read } from "./known.mjs";
 
@@ -17,7 +17,7 @@ import { Draft, goesOn, pathOf, placeOf, read } from "./known.mjs";
  */
 
 /**
- * Whether a patch surely touches a slot of a view. Fails with `Misfit` where it is known to be
+ * True if a patch surely touches a slot of a view. Fails with `Misfit` where it is known to be
  * refused.
  * @param {Part} whole
  * @param {readonly Operation[]} patch
@@ -44,7 +44,7 @@ function changed(draft, operation) {
   return to.length === 0 || mayStay(from[0], to[0]) ? [] : [from[0], to[0]];
 }
 
-// Where something is taken away or exchanged.
+// The places at which something is taken away or exchanged.
 /** @param {Part} whole @param {Operation} operation @returns {Origin[]} */
 function fromPlaces(whole, operation) {
   if (operation.op === "remove" || operation.op === "replace") {
@@ -53,15 +53,15 @@ function fromPlaces(whole, operation) {
   return operation.op === "move" ? [{ ...placeOf(whole, tokens(operation.from)), set: false }] : [];
 }
 
-// Where something is added. Of a member that may be there already it is not known whether it is
-// merely set: then no size surely changes.
+// The place at which something is added. Of a member that may be there already it is not known
+// whether it is merely set: then no size surely changes.
 /** @param {Part} whole @param {readonly string[]} path @returns {Place} */
 function target(whole, path) {
   const place = placeOf(whole, path);
   return { ...place, set: place.list !== true && read(whole, path).is !== "absent" };
 }
 
-// Whether a move may lead to its own place, and so change nothing: the last element of a list to
+// True if a move may lead to its own place, and so change nothing: the last element of a list to
 // the end of it, which may not be known.
 /** @param {Origin} from @param {Place} to */
 function mayStay({ path, holder, at }, to) {

@@ -1,7 +1,8 @@
-// What the relay is to do when this client's session ends (docs/PROTOCOL.md, "Wills"). A will goes
-// with its session, so each connection leaves it again. A session has one: what the parts of a page
-// leave is put together.
+// A will: what the relay is to do when this client's session ends (docs/PROTOCOL.md, "Wills"). It
+// goes with its session, so each connection leaves it again. A session has one: what the parts of a
+// page leave is put together.
 import { Closed, Refused } from "./errors.mjs";
+import { checkPatch } from "./options.mjs";
 import { checked } from "./json.mjs";
 
 /** @typedef {import("../relay.js").Operation} Operation */
@@ -19,6 +20,7 @@ export function wills(link) {
    */
   return (patch, of) =>
     new Promise((resolve, reject) => {
+      checkPatch("will", patch);
       const before = parts;
       const own = (parts = new Map(before).set(of, checked(patch)));
       /** @type {Asked} */

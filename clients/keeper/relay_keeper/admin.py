@@ -13,7 +13,7 @@ from .state import Json
 from .store import as_text
 
 SECONDS, STOPPING = 10.0, 2.0
-"""How long an answer may take, and that to a stop."""
+"""The seconds that an answer may take, and that to a stop."""
 LONGEST = 1_048_576
 """Bytes of a patch that the relay reads."""
 _TAG = re.compile(r'"(\d+)-(\d+)"')
@@ -36,7 +36,7 @@ class OpenToAll(Exception):
 
 
 class Tag(NamedTuple):
-    """Which document a room has: that of a revision of one run of the relay."""
+    """Names the document that a room has: that of a revision of one run of the relay."""
 
     epoch: int
     revision: int
@@ -52,7 +52,7 @@ class Listed:
 
 
 class Edited(NamedTuple):
-    """What became of an edit."""
+    """The outcome of an edit."""
 
     tag: Optional[Tag]
     """Of the document that it made; None if it was refused."""
@@ -98,13 +98,13 @@ class Admin:
             raise NoAnswer(f"{self.url} lists no rooms") from None
 
     def places(self) -> Optional[int]:
-        """How many rooms there may be; None if that is not told."""
+        """The number of rooms that there may be; None if that is not told."""
         metrics = self._ask("GET", "/metrics", wanted=200).body.decode(errors="replace")
         found = re.search(r"^relay_rooms_limit (\d+)$", metrics, re.M)
         return int(found[1]) if found else None
 
     def tag(self, room: str) -> Optional[Tag]:
-        """Which document a room has; None without such a room."""
+        """The tag of the document that a room has; None without such a room."""
         answer = self._ask("GET", f"/rooms/{room}", {"If-None-Match": "*"})
         return None if answer.status == 404 else _expected(answer, 304).tag
 

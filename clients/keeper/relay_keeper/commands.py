@@ -1,4 +1,5 @@
-"""What each word of the command `relay-keeper` does. Each gives the status of the program."""
+"""The words of the command `relay-keeper`, and what each does. Each gives the status of the
+program."""
 from __future__ import annotations
 
 import argparse
@@ -17,7 +18,7 @@ from .putting_back import PuttingBack
 from .restore import listing, restore_kept, restore_room
 from .share import Group, share
 from .store import Store
-from .stores import BadStore, opened, shared, take
+from .stores import BadStore, check_relay, opened, shared, take
 
 log = logging.getLogger("relay_keeper")
 
@@ -72,7 +73,7 @@ def _named(chosen: Chosen, asked: argparse.Namespace, store: Store) -> List[str]
 
 def restoring(asked: argparse.Namespace) -> int:
     words, admin = _with_store(asked), _admin(asked)
-    with _opened(asked) as store:
+    with _of_one_relay(asked) as store:
         if admin is not None and not words:
             return _restore_all(admin, store, Chosen([], asked.match))
         if admin is not None or not 1 <= len(words) <= 2 or not is_name(words[0]):
@@ -99,7 +100,7 @@ def _restore_all(admin: Admin, store: Store, chosen: Chosen) -> int:
 
 def listing_all(asked: argparse.Namespace) -> int:
     chosen = Chosen(asked.words, asked.match)
-    with _opened(asked) as store:
+    with _of_one_relay(asked) as store:
         for entry in store.list():
             if entry.room in chosen:
                 print(listed(entry))
@@ -108,7 +109,7 @@ def listing_all(asked: argparse.Namespace) -> int:
 
 def exporting(asked: argparse.Namespace) -> int:
     chosen = Chosen(asked.words, asked.match)
-    with _opened(asked) as store:
+    with _of_one_relay(asked) as store:
         for entry in store.list():
             state = store.get(entry.room) if entry.room in chosen else None
             if state is not None:
@@ -142,6 +143,14 @@ COMMANDS: Dict[str, Callable[[argparse.Namespace], int]] = {
 @contextlib.contextmanager
 def _opened(asked: argparse.Namespace, history: int = 1, apart: float = 600.0) -> Iterator[Store]:
     with contextlib.closing(opened(asked.store, asked.relay, history, apart)) as store:
+        yield store
+
+
+@contextlib.contextmanager
+def _of_one_relay(asked: argparse.Namespace) -> Iterator[Store]:
+    """Opens what is there already, and checks of which relay it is."""
+    with _opened(asked) as store:
+        check_relay(store, asked.relay)
         yield store
 
 

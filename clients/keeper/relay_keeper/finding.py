@@ -1,4 +1,4 @@
-"""Which rooms the keeper is in, by the list that the operator's port gives.
+"""The rooms that the keeper is in, by the list that the operator's port gives.
 
 The list is asked for every few seconds. The keeper is in a room while others are, since a room in
 which anybody is makes no place for another one. One that nobody is in is read there, if its newest
@@ -91,7 +91,7 @@ class Finding:
         self._doubts.set()
 
     def _is_another_run(self, listed: Dict[str, Listed]) -> bool:
-        """Whether it may be one. Within a run a room's revision only rises, and a room that is no
+        """True if it may be one. Within a run a room's revision only rises, and a room that is no
         longer listed made place."""
         fell = (
             name not in listed or listed[name].revision < before.revision
@@ -113,7 +113,8 @@ class Finding:
         await self._off(self._admin.open)
 
     async def _end_run(self) -> None:
-        """What was heard of the run before goes to the store, before it is read for this one."""
+        """Writes what was heard of the run before to the store, before that is read for this
+        one."""
         ending = [asyncio.ensure_future(room.end_run(self._epoch)) for room in self.rooms]
         if ending:
             done, late = await asyncio.wait(ending, timeout=PATIENCE)

@@ -18,7 +18,7 @@ from .rooms import Rooms
 from .store import Store
 
 THREADS = 8
-"""How many documents are written side by side, since each waits for the disk."""
+"""The number of documents that are written side by side, since each waits for the disk."""
 LEASE = 0.5
 """Seconds after which a lease is asked for again that another keeper holds."""
 CHECK = 5.0
@@ -29,7 +29,7 @@ log = logging.getLogger("relay_keeper")
 
 @dataclass(frozen=True)
 class Asked:
-    """What is to be kept, and how."""
+    """Says what is to be kept, and how."""
 
     url: str
     store: Store
@@ -43,7 +43,7 @@ class Asked:
 
 
 Work = Callable[[Means, "asyncio.Future[Any]"], Coroutine[Any, Any, None]]
-"""What a keeper does once it has the lease, until the future is done."""
+"""The work of a keeper once it has the lease, until the future is done."""
 
 
 async def keep(asked: Asked) -> None:

@@ -1,4 +1,4 @@
-"""Which rooms are kept."""
+"""The rooms that are kept."""
 from __future__ import annotations
 
 import fnmatch

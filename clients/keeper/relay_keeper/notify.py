@@ -1,5 +1,5 @@
-"""What systemd is told (sd_notify(3)): a datagram to the socket that it names. Without that name
-nothing is told."""
+"""Notifications for systemd (sd_notify(3)): a datagram to the socket that it names. Without that
+name nothing is told."""
 from __future__ import annotations
 
 import os

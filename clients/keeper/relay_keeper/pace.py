@@ -1,4 +1,4 @@
-"""When the document of a room is written.
+"""The time at which the document of a room is written.
 
 A document is written whole, so a small edit of a large one costs a large write. So it is written
 once edits have brought a tenth of its bytes since the last write, and at the latest when its oldest
@@ -42,7 +42,7 @@ class Pace:
             self._oldest = now
 
     def is_due(self, now: float) -> bool:
-        """Whether what was heard is to be written."""
+        """True if what was heard is to be written."""
         if self._oldest is None:
             return True
         is_paid = self._brought * self._factor >= self._cost

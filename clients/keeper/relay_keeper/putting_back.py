@@ -14,15 +14,15 @@ from .state import Entry, State
 from .store import Store
 
 TRIES, PAUSES = 5, 10
-"""How often a room is tried that others edit, or for which the relay has no memory or place; and
-how often the relay is waited for, of all rooms together."""
+"""The number of tries of a room that others edit, or for which the relay has no memory or place;
+and the number of waits for the relay, of all rooms together."""
 
 log = logging.getLogger("relay_keeper")
 
 
 @dataclass
 class Came:
-    """What came of it."""
+    """The outcome of putting documents back."""
 
     epoch: Optional[int]
     """The run of the relay, if that is known by then."""

@@ -10,7 +10,7 @@ from .state import State, now
 from .store import Store
 
 TRIES = 20
-"""How often a room is tried that others edit."""
+"""The number of tries of a room that others edit."""
 
 
 def listing(store: Store, room: str) -> List[str]:

@@ -49,12 +49,12 @@ class Seen:
 
 @dataclass(frozen=True)
 class Means:
-    """What the rooms of a relay are kept with."""
+    """The means by which the rooms of a relay are kept."""
 
     url: str
     store: Store
     disk: Executor
-    """Whose threads write to the store."""
+    """The executor whose threads write to the store."""
     pace: Callable[[], Pace]
     """Makes the pace of another room."""
 
@@ -154,7 +154,7 @@ class Room:
             self._watch(NOTHING)
 
     def _count(self, epoch: int, change: relay_client.Change) -> None:
-        """What edits brought by this change."""
+        """Counts what edits brought by this change."""
         moment, self._messages = self._loop.time(), self._messages + 1
         if change.patch is None:
             heard = self._heard if self._heard_of == epoch else 0
@@ -200,7 +200,7 @@ class Room:
     # What is done about it.
 
     def _is_due(self) -> bool:
-        """Whether what is unwritten is to be written. That of a run that has begun, and that of one
+        """True if what is unwritten is to be written. That of a run that has begun, and that of one
         that has ended, does not wait."""
         if not self._unwritten:
             return False

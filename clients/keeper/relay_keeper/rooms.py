@@ -7,8 +7,8 @@ from typing import Callable, Dict, Iterator, Optional, Tuple
 from .room import Means, Room
 
 MESSAGES, FEWEST = 128, 8
-"""How many messages are heard between two looks, of all rooms together, and of each one at
-least."""
+"""The number of messages that are heard between two looks, of all rooms together, and of each one
+at least."""
 
 
 class Rooms:

@@ -22,7 +22,7 @@ log = logging.getLogger("relay_keeper")
 
 @dataclass(frozen=True)
 class Group:
-    """What is shared, and how."""
+    """Says what is shared, and how."""
 
     url: str
     store: Shared

@@ -1,4 +1,4 @@
-"""Which rooms a relay of several has: those that its clients want, as long as they do.
+"""The rooms that a relay of several has: those that its clients want, as long as they do.
 
 The relay lets clients into no room by itself. A room that one was refused at is taken, if no other
 relay has it, and asked for else. The keeper is in each room that its relay has, from the moment
@@ -38,10 +38,11 @@ ENTERING = 5.0
 STARTING = 60.0
 """Seconds that the relay may take to begin."""
 MOVES, CLOSED = 3, 12
-"""How many requests are made side by side for rooms that are taken or given up, since the relay
-answers few operators at once; and how many rooms are closed and not given up yet."""
+"""The number of requests that are made side by side for rooms that are taken or given up, since the
+relay answers few operators at once; and the number of rooms that are closed and not given up
+yet."""
 SILENCES = 3
-"""How often in a row it does not answer until it is held to be gone."""
+"""The number of times in a row that it does not answer until it is held to be gone."""
 
 log = logging.getLogger("relay_keeper")
 T = TypeVar("T")
@@ -209,7 +210,7 @@ class Sharing:
         await self._off(lambda: self._store.give_room(room))
 
     def _forget(self, room: str) -> None:
-        """What is noted of it."""
+        """Forgets what is noted of it."""
         for times in (self._taken, self._empty, self._wanted, self._later, self._asked):
             times.pop(room, None)
         self._said.pop(room, None)

@@ -1,4 +1,4 @@
-"""What a store keeps of a room."""
+"""The records that a store keeps of a room."""
 from __future__ import annotations
 
 import calendar
@@ -19,7 +19,7 @@ class State:
     revision: int
     document: Json
     at: int
-    """When it was written: milliseconds since 1970."""
+    """The time at which it was written: milliseconds since 1970."""
 
 
 @dataclass(frozen=True)
@@ -38,7 +38,7 @@ class Older:
     """An older state of a room, or a document that was set aside."""
 
     time: str
-    """When it was written, as `stamp` says it: its name within its room."""
+    """The time at which it was written, as `stamp` says it: its name within its room."""
     bytes: int
     is_aside: bool
 

@@ -1,4 +1,5 @@
-"""Where the documents of a relay's rooms are kept: files, SQLite or PostgreSQL (stores.py)."""
+"""The store in which the documents of a relay's rooms are kept: files, SQLite or PostgreSQL
+(stores.py)."""
 from __future__ import annotations
 
 import abc
@@ -71,6 +72,11 @@ class Store(abc.ABC):
     def list(self) -> List[Entry]:
         """The newest state of each room, by the rooms' names."""
 
+    def relays(self) -> List[str]:
+        """The names of all relays whose rooms are in the same database; none if that is no
+        database."""
+        return []
+
     # Older states, and what was set aside.
 
     @abc.abstractmethod
@@ -79,7 +85,7 @@ class Store(abc.ABC):
 
     @abc.abstractmethod
     def document(self, room: str, older: Older) -> Json:
-        """What such a state has."""
+        """The document that such a state has."""
 
     @abc.abstractmethod
     def set_aside(self, room: str) -> Optional[str]:

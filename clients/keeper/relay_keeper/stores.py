@@ -54,6 +54,15 @@ def _check(relay: Optional[str]) -> None:
         raise BadStore(f"{relay!r}: a relay's name is as that of a room")
 
 
+def check_relay(store: Store, relay: Optional[str]) -> None:
+    """`BadStore` if it is not clear whose rooms are meant: the store has those of other relays, and
+    none is named, or one of which it has nothing."""
+    known = store.relays()
+    if known and known != [NAME] if relay is None else known and relay not in known:
+        names = ", ".join(known)
+        raise BadStore(f"{store.where} has rooms of these relays: {names}; name one by --relay")
+
+
 def take(store: Store) -> None:
     """`Taken` if another keeper holds the lease."""
     if not store.take():

@@ -40,6 +40,7 @@ WHERE relay = ? AND room = ? AND kind = 'newest'"""
 LIST = """
 SELECT room, epoch, revision, {bytes}, at FROM relay_states
 WHERE relay = ? AND kind = 'newest'"""
+RELAYS = "SELECT DISTINCT relay FROM relay_states ORDER BY relay"
 PUT = """
 INSERT INTO relay_states (relay, room, kind, epoch, revision, document, at)
 VALUES (?, ?, 'newest', ?, ?, ?, ?)
@@ -133,6 +134,9 @@ class Table(Store):
     def list(self) -> List[Entry]:
         rows = self._found(LIST.format(bytes=self.BYTES), self._relay)
         return sorted((Entry(*row) for row in rows), key=lambda it: it.room)
+
+    def relays(self) -> List[str]:
+        return [relay for [relay] in self._found(RELAYS)]
 
     def older(self, room: str) -> List[Older]:
         found = self._found(OLDER.format(bytes=self.BYTES), self._relay, room)

@@ -114,7 +114,7 @@ def _share(commands: "argparse._SubParsersAction[argparse.ArgumentParser]") -> N
 
 
 def _writing(command: argparse.ArgumentParser, age: float) -> None:
-    """When is written, and what."""
+    """Adds the options that say when is written, and what."""
     command.add_argument(
         "--pace",
         type=_positive,
@@ -169,7 +169,9 @@ def _command(
 def _store(command: argparse.ArgumentParser, required: bool = False) -> None:
     command.add_argument("--store", required=required, metavar="STORE", help=STORE)
     command.add_argument(
-        "--relay", metavar="NAME", help="which relay's rooms, if a database has those of several"
+        "--relay",
+        metavar="NAME",
+        help="which relay's rooms, if a database has those of several (relay)",
     )
 
 

@@ -14,7 +14,15 @@ from .faults import Closed, HandshakeFailed, Refused, Unknown
 from .pointers import check_room, tokens
 from .values import Patch, as_json
 
-DONE, REFUSED, NO_RELAY = 0, 1, 3  # 2 is argparse's, for words that it does not take
+DONE, REFUSED, WRONG, NO_RELAY = 0, 1, 2, 3
+NEEDS = {
+    "add": ("path", "value"),
+    "remove": ("path",),
+    "replace": ("path", "value"),
+    "move": ("path", "from"),
+    "copy": ("path", "from"),
+    "test": ("path", "value"),
+}
 
 ABOUT = """Gets, watches and edits the document of a room. What it prints is one JSON a line."""
 EXAMPLES = """\
@@ -27,8 +35,8 @@ A relay that listens on port 8080 runs these as they stand, in this order:
   echo '[{"op":"replace","path":"/n","value":2}]' |
     relay-client edit ws://127.0.0.1:8080/rooms/shop - --base 1
 
-It exits with 0 if all was done, 1 if the relay refused it, 2 if the words are wrong, and 3 if there
-is no relay, or the connection was lost before the answer.
+It exits with 0 if all was done, 1 if the relay refused it, 2 if the words are wrong or the address
+is none of a room, and 3 if there is no relay, or the connection was lost before the answer.
 """
 GET = """Prints the value at each pointer, by default the whole document. If one of them leads to
 nothing, it prints none and exits with 1."""
@@ -57,7 +65,7 @@ def main(words: Optional[Sequence[str]] = None) -> int:
         is_open = asked.command == "edit" and isinstance(error, (NoAnswer, Unknown))
         also = ": the edit may have been done, or not" if is_open else ""
         print(f"relay-client: {error}{also}", file=sys.stderr)
-        return NO_RELAY
+        return WRONG if isinstance(error, HandshakeFailed) and error.status == 404 else NO_RELAY
 
 
 def _running(asked: argparse.Namespace) -> Coroutine[Any, Any, None]:
@@ -132,7 +140,30 @@ def _patch(word: str) -> Patch:
         patch: Patch = as_json(value)
     except ValueError as error:
         raise argparse.ArgumentTypeError(str(error)) from error
+    if not isinstance(patch, list):
+        raise argparse.ArgumentTypeError('a patch is a list of operations, as [{"op":..},..]')
+    for at, operation in enumerate(patch):
+        _check_operation(operation, f"operation {at} (the first is 0)")
     return patch
+
+
+def _check_operation(operation: Any, which: str) -> None:
+    if not isinstance(operation, dict) or operation.get("op") not in [*NEEDS]:
+        raise argparse.ArgumentTypeError(f"{which} is no object with an `op` of {', '.join(NEEDS)}")
+    for name in NEEDS[operation["op"]]:
+        if name not in operation:
+            raise argparse.ArgumentTypeError(f"{which} needs `{name}`")
+        if name != "value":
+            _check_pointer(operation[name], f"{which}: `{name}`")
+
+
+def _check_pointer(pointer: Any, which: str) -> None:
+    if not isinstance(pointer, str):
+        raise argparse.ArgumentTypeError(f"{which} is no text")
+    try:
+        tokens(pointer)
+    except ValueError as error:
+        raise argparse.ArgumentTypeError(f"{which}: {error}") from error
 
 
 def _count(word: str) -> int:

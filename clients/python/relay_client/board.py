@@ -27,7 +27,7 @@ from .values import Json, Operation, Patch, Slots, State, View, as_json
 from .warning import warning
 
 TRIES = 20
-"""How often `update` and `undo` try at most when others are faster."""
+"""The number of times that `update` and `undo` try at most when others are faster."""
 
 _NO_BASE: Any = object()
 
@@ -47,7 +47,8 @@ class Board:
     `waiting` (there is no connection, and the next try comes after a while; the cause is a
     `HandshakeFailed` if the last try failed), `closed`. If it is not given, a warning of the logger
     `relay_client` says why there is no connection. `on_taken_back` is told when an optimistic edit
-    failed, with its patch and the cause: what it showed is taken back.
+    failed, with its patch and the cause: what it showed is taken back. Any other failure at which
+    nobody looks, asyncio reports as never retrieved.
 
     The first try after a loss waits at most `first_wait` seconds, each further one up to twice as
     long, and at most `longest_wait`. After `quiet` seconds without a message the relay is asked
@@ -83,7 +84,7 @@ class Board:
         view: View,
         on_change: Listener = lambda change: None,
         on_state: Optional[Callable[[State, Optional[Exception]], None]] = None,
-        on_taken_back: Callable[[Patch, Exception], None] = lambda patch, cause: None,
+        on_taken_back: Optional[Callable[[Patch, Exception], None]] = None,
         first_wait: float = 0.2,
         longest_wait: float = 10.0,
         quiet: float = 20.0,
@@ -131,19 +132,19 @@ class Board:
 
     @property
     def slots(self) -> Optional[Slots]:
-        """What they show: what the relay has shown, with the optimistic edits that wait laid over
-        it. None before the first snapshot."""
+        """The slots that are shown: what the relay has shown, with the optimistic edits that wait
+        laid over it. None before the first snapshot."""
         return self._shown
 
     @property
     def confirmed(self) -> Optional[Slots]:
-        """What the relay has shown; None before the first snapshot."""
+        """The slots as the relay has shown them; None before the first snapshot."""
         held = self._follower.held
         return held.slots if held else None
 
     @property
     def pending(self) -> int:
-        """How many optimistic edits wait."""
+        """The number of optimistic edits that wait."""
         return len(self._pending.optimistic())
 
     @property
@@ -164,12 +165,12 @@ class Board:
 
     @property
     def undoable(self) -> int:
-        """How many edits `undo` can take back."""
+        """The number of edits that `undo` can take back."""
         return self._history.undoable
 
     @property
     def redoable(self) -> int:
-        """How many edits `redo` can do again."""
+        """The number of edits that `redo` can do again."""
         return self._history.redoable
 
     def at(self, pointer: str) -> Place:
@@ -181,9 +182,9 @@ class Board:
         return self._listeners.add(listener)
 
     def changes(self) -> AsyncIterator[Change]:
-        """What is shown, and then each change, until the board is closed. A reader that is slow
-        misses those between, and not the newest one. Fails with what closed the board, if something
-        did."""
+        """Yields what is shown, and then each change, until the board is closed. A reader that is
+        slow misses those between, and not the newest one. Fails with what closed the board, if
+        something did."""
         return self._listeners.read(self._change(None))
 
     async def watch(self, view: View) -> Slots:
@@ -322,9 +323,13 @@ class Board:
         """For what asks more than once: `sync` waits for it. Gives its end."""
         return self._said.begin()
 
-    def taken_back(self, patch: Patch, cause: Exception) -> None:
-        """Of a change that was made anew in vain."""
+    def taken_back(self, patch: Patch, cause: Exception) -> bool:
+        """Tells the application of an optimistic edit that is shown no more. Gives whether it
+        listens: then nobody has to look at the future as well."""
+        if self._on_taken_back is None:
+            return False
         told(self._on_taken_back, patch, cause)
+        return True
 
     async def watch_again(self) -> None:
         """Comes back with slots of the room's revision."""
@@ -499,8 +504,10 @@ class Board:
         elif held is not None:
             self._pending.done(edit, held)
         self._lay_over()
-        if edit.cause is not None and edit.optimistic and not silent:
-            told(self._on_taken_back, edit.patch, edit.cause)
+        if edit.cause is None or not edit.optimistic or silent:
+            return
+        if self.taken_back(edit.patch, edit.cause):
+            edit.look_at()
 
     # What the link and the follower tell.
 

@@ -19,8 +19,8 @@ if TYPE_CHECKING:
     from .board import Board
 
 PAUSE, LONGEST_PAUSE = 0.01, 0.5
-"""How long the third try waits at most; each further one up to twice as long, so that many who
-count take turns."""
+"""The seconds that the third try waits at most; each further one up to twice as long, so that many
+who count take turns."""
 
 OUTDATED = (
     "stale",
@@ -31,7 +31,7 @@ OUTDATED = (
     "no-container",
     "into-itself",
 )
-"""What a patch is refused as that was made of another document."""
+"""The faults by which a patch is refused that was made of another document."""
 
 
 @dataclass(frozen=True)
@@ -81,9 +81,6 @@ def change(
     over = board.begin_saying()
     task = asyncio.ensure_future(_anew(board, attempt, first, is_there, options))
     task.add_done_callback(lambda task: over())
-    if options.optimistic:
-        # Nobody has to look at it: `on_taken_back` is told.
-        task.add_done_callback(lambda task: task.cancelled() or task.exception())
     return task
 
 
@@ -109,14 +106,20 @@ async def _anew(
         except Exception as error:
             is_outdated = isinstance(error, Refused) and error.fault in OUTDATED
             if not is_outdated or tried >= options.tries:
-                if options.optimistic:
-                    board.taken_back(made.patch, error)
+                if options.optimistic and board.taken_back(made.patch, error):
+                    _look_at(asyncio.current_task())
                 raise
         if tried > 1:
             await pause(tried)
         await board.watch_again()
         made = attempt()
     raise AssertionError("the last try has ended it")
+
+
+def _look_at(task: "Optional[asyncio.Task[Any]]") -> None:
+    """Keeps asyncio from reporting that nobody looked at why a task failed, once it has."""
+    if task is not None:
+        task.add_done_callback(lambda task: task.cancelled() or task.exception())
 
 
 async def pause(tried: int) -> None:

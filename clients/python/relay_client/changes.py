@@ -11,17 +11,17 @@ from .values import Patch, Slots
 @dataclass(frozen=True)
 class Change:
     slots: Slots
-    """What is shown now: `[value]` for each pointer of the view, or `[]` if it leads to nothing. No
-    later change writes to it."""
+    """The slots that are shown now: `[value]` for each pointer of the view, or `[]` if it leads to
+    nothing. No later change writes to it, and nobody else may: sort a copy, as `sorted(cards)`."""
     confirmed: Slots
-    """What the relay has shown: the same without the optimistic edits that wait."""
+    """The slots as the relay has shown them: the same without the optimistic edits that wait."""
     rev: int
     """The revision of which that is."""
     pending: int
-    """How many optimistic edits wait."""
+    """The number of optimistic edits that wait."""
     patch: Optional[Patch]
-    """What led to `confirmed` from the slots before, with slot k's value at /k/0; None if all came
-    anew, or only what waits changed."""
+    """The patch that led to `confirmed` from the slots before, with slot k's value at /k/0; None if
+    all came anew, or only what waits changed."""
 
 
 Listener = Callable[[Change], None]
@@ -51,8 +51,8 @@ class Listeners:
             reader.wake.set()
 
     async def read(self, first: Optional[Change]) -> AsyncIterator[Change]:
-        """What is shown, and then each change. A reader that is slow is given the newest one, in
-        place of those that it missed."""
+        """Yields what is shown, and then each change. A reader that is slow is given the newest
+        one, in place of those that it missed."""
         reader = _Newest(first)
         self._readers.add(reader)
         try:
@@ -87,7 +87,7 @@ class _Newest:
 
 
 def told(hearer: Callable[..., None], *words: object) -> None:
-    """What an application's function throws is told to the event loop, and the board goes on."""
+    """Tells the event loop what an application's function throws, and the board goes on."""
     try:
         hearer(*words)
     except Exception as error:

@@ -1,4 +1,4 @@
-"""What `relay-client` does with a room: get, watch, edit."""
+"""The commands of `relay-client` for a room: get, watch, edit."""
 from __future__ import annotations
 
 import asyncio
@@ -11,7 +11,7 @@ from typing import Any, Callable, List, Optional, TypeVar
 
 from .board import Board
 from .changes import Change
-from .faults import HandshakeFailed, Refused
+from .faults import Closed, HandshakeFailed, Refused
 from .link import settle
 from .values import Json, Patch, State, View
 from .warning import warning
@@ -58,6 +58,8 @@ class Room:
             coming.cancel()
             self.check()
             raise NoAnswer(f"no answer within {self._timeout:g} seconds")
+        if isinstance(coming.exception(), Closed):
+            self.check()
         return coming.result()
 
     def check(self) -> None:

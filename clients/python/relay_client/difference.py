@@ -100,7 +100,7 @@ class Difference:
             self._push_element(node, kids, kid)
 
     def _end_of(self, node: Node) -> int:
-        """What was pushed comes to the end of the list, also if others have made that longer by
+        """The end of the list: what was pushed comes there, also if others have made that longer by
         then."""
         end = len(node.list)
         if node not in self._draft.seen:
@@ -121,7 +121,8 @@ class Difference:
     def _matched(
         self, node: Node, kids: List[Node], goal: Sequence[Node]
     ) -> Tuple[Dict[Node, Node], Set[Node]]:
-        """What stands for the elements of the goal, and which of that stays where it is."""
+        """The parts that stand for the elements of the goal, and those of them that stay where they
+        are."""
         by = matched(kids, goal, lambda kid: kid not in self._places)
         # Which element stands for an equal value hangs on the whole list.
         if any(kid is not there for kid, there in by.items()):
@@ -131,7 +132,7 @@ class Difference:
         return by, {kids[place] for place in rising}
 
     def _leaves(self, kid: Node, node: Node) -> bool:
-        """Whether a part goes to another container."""
+        """True if a part goes to another container."""
         return self._places.get(kid, node) is not node
 
     def _come_to(self, node: Node, kids: List[Node], at: int, there: Node, is_kept: IsKept) -> int:
@@ -205,7 +206,7 @@ class Difference:
             del kids[_name_of(kids, kid)]
 
     def _path(self, kid: Node) -> Optional[Path]:
-        """Where a part stands by now; None if it does not."""
+        """The path at which a part stands by now; None if it stands nowhere."""
         if kid is self._draft.root:
             return ()
         holder = self._holders.get(kid)

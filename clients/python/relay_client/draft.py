@@ -43,7 +43,7 @@ class Draft:
         """No test says what was read."""
 
     def at(self, path: Path) -> "Union[DraftList, DraftObject]":
-        """What stands at a path."""
+        """The part that stands at a path."""
         part: Any = self.of(self.root)
         for token in path:
             if isinstance(part, DraftList):
@@ -55,7 +55,7 @@ class Draft:
         return part
 
     def of(self, node: Node) -> Any:
-        """What the application is given of a node."""
+        """Returns what the application is given of a node."""
         # What the application put in is its own.
         if not node.is_container or node.origin is None:
             return node.part
@@ -299,7 +299,7 @@ class DraftList(MutableSequence[Any]):
             draft.pushed.pop(kid, None)
 
     def _neighbour(self, start: int, end: int) -> None:
-        """What is put in is put in front of an element or behind one, but at the start."""
+        """Elements that are put in are put in front of one or behind one, but at the start."""
         kids = self.node.list
         for kid in (*kids[end:], *reversed(kids[:start])):
             if kid.origin is not None:

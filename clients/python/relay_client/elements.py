@@ -1,5 +1,4 @@
-"""What is done to the elements of one list: by their places, or by a member that tells them
-apart."""
+"""Operations on the elements of one list: by their places, or by a member that tells them apart."""
 from __future__ import annotations
 
 import json
@@ -16,8 +15,8 @@ if TYPE_CHECKING:
 
 
 def followed(shown: Callable[[], List[Json]], at: int) -> Callable[[], int]:
-    """Where an element is by now: the one that stood at a place when it was asked for, as far as
-    its value tells. The nearest one, if there are several. `IndexError` if there is none."""
+    """Finds where an element is by now: the one that stood at a place when it was asked for, as far
+    as its value tells. The nearest one, if there are several. `IndexError` if there is none."""
     before = shown()
     if not 0 <= at < len(before):
         raise IndexError(f"the list has no element {at}")
@@ -40,7 +39,7 @@ class Keyed:
         self._place, self._name = place, name
 
     def index(self, key: Json) -> int:
-        """Where the element with a key stands; -1 if it does not."""
+        """The index of the element with a key; -1 if there is none."""
         for at, element in enumerate(self._place.elements()):
             if isinstance(element, dict) and same(element.get(self._name), key):
                 return at

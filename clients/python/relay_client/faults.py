@@ -1,8 +1,11 @@
-"""How what was asked for can fail, and why there is no connection."""
+"""The faults of what was asked for, and the causes if there is no connection."""
 from __future__ import annotations
 
+import re
 from typing import Any, Dict, Literal, Optional
+from urllib.parse import urlsplit
 
+from .advice import ADVICE
 
 class Refused(Exception):
     """The relay refused a request, and nothing changed by it. Or the board did, before it was sent:
@@ -16,6 +19,7 @@ class Refused(Exception):
     ):
         place = "" if at is None else f" at {at}"
         room = "" if rev is None else f", the room is at revision {rev}"
+        advice = advice or ADVICE.get(fault, "")
         super().__init__(fault + place + room + (advice and f": {advice}"))
         self.fault = fault
         """The word of the fault (docs/PROTOCOL.md, "Messages")."""
@@ -49,14 +53,13 @@ class Closed(Exception):
         super().__init__("the board is closed")
 
 
-ADVICE = {
-    404: "an address ends with /rooms/NAME",
-    503: "it is full (--sessions, --rooms), --closed, or stopping",
-}
+_FULL = "it is full (--sessions, --rooms), --closed, or stopping"
+_NO_ROOMS = "what answers there has no rooms, or none to watch only"
 
 
 class HandshakeFailed(Exception):
-    """There is no connection: the cause that `on_state` gets with `waiting`."""
+    """There is no connection: the cause that `on_state` gets with `waiting`. A status of 404 ends
+    the board, if no connection was had before: the address is none of a room."""
 
     def __init__(
         self,
@@ -85,9 +88,17 @@ class HandshakeFailed(Exception):
 def _refusal(url: str, status: Optional[int]) -> str:
     if status is None:
         return f"{url} refuses the connection"
-    advice = f": {ADVICE[status]}" if status in ADVICE else ""
+    advice = {404: f": {_wrong_address(url)}", 503: f": {_FULL}"}.get(status, "")
     return f"{url} refuses the connection, with {status}{advice}"
 
 
+def _wrong_address(url: str) -> str:
+    """Tells what is wrong with an address, as far as it shows."""
+    parts = urlsplit(url)
+    if not re.fullmatch(r"/rooms/[\w-]+(/watch)?", parts.path, re.ASCII):
+        return f"a room is at /rooms/NAME, and this path is {parts.path}"
+    return "leave out the `?` and what follows" if parts.query else _NO_ROOMS
+
+
 def _silence(url: str) -> str:
-    return f"nothing answers at {url}: start the relay there, or connect to where it listens"
+    return f"nothing answers at {url}: start the relay there, or check the address and the port"

@@ -35,7 +35,7 @@ class Held:
 
 @dataclass(frozen=True)
 class Hearer:
-    """Who is told what becomes of the slots."""
+    """A listener that is told what becomes of the slots."""
 
     took: Callable[[Optional[Held], Held, Optional[Patch], bool], None]
     """Something else is held than before; by which patch, if it was no snapshot, and whether that

@@ -1,5 +1,5 @@
-"""What a client knows of a document by the slots of its view, and of the documents to which its own
-patches lead.
+"""A client's knowledge of a document by the slots of its view, and of the documents to which its
+own patches lead.
 
 A part of the document is a JSON value, which is known as a whole; `ABSENT`; `UNKNOWN`; or `Parts`,
 a container of which some members or elements are known. What an operation means to a slot
@@ -41,7 +41,7 @@ class Parts:
 
     known: Dict[str, Part] = field(default_factory=dict)
     size: Optional[int] = None
-    """How many parts it has, if that is known."""
+    """The number of its parts, if that is known."""
 
     def is_object(self) -> bool:
         return any(index(token) is None and is_there(part) for token, part in self.known.items())
@@ -55,14 +55,14 @@ def is_value(part: Part) -> bool:
 
 
 def is_there(part: Part) -> bool:
-    """Whether something stands there for sure."""
+    """True if something stands there for sure."""
     if isinstance(part, Parts):
         return part.size is not None or any(map(is_there, part.known.values()))
     return is_value(part)
 
 
 def goes_on(part: Part, place: int) -> bool:
-    """Whether there is more behind an index for sure, if that is a list."""
+    """True if there is more behind an index for sure, if that is a list."""
     if not isinstance(part, Parts):
         return False
     behind = (known for token, known in part.known.items() if (index(token) or 0) > place)
@@ -70,7 +70,7 @@ def goes_on(part: Part, place: int) -> bool:
 
 
 def known_by(view: View, slots: Slots) -> Part:
-    """What the slots of a view tell of the document."""
+    """Returns what the slots of a view tell of the document."""
     document: Part = UNKNOWN
     # Outer ones first, and values before sizes: what is within a known value tells nothing new.
     told = sorted(
@@ -111,14 +111,14 @@ def part_at(part: Part, token: str) -> Part:
 
 
 def at(document: Part, path: Iterable[str]) -> Part:
-    """What is known of the value to which a path leads."""
+    """Returns what is known of the value to which a path leads."""
     for token in path:
         document = part_at(document, token)
     return document
 
 
 def after(document: Part, patch: Iterable[Operation]) -> Part:
-    """What is known after a patch; `DoesNotFit` if it is known to be refused."""
+    """Returns what is known after a patch; `DoesNotFit` if it is known to be refused."""
     draft = Draft()
     for operation in patch:
         document = step(document, operation, draft)
@@ -126,8 +126,8 @@ def after(document: Part, patch: Iterable[Operation]) -> Part:
 
 
 def step(document: Part, operation: Operation, draft: Optional[Draft] = None) -> Part:
-    """What is known after one operation of a patch: with the patch's draft what is known before is
-    written to, as far as it is the draft's own."""
+    """Returns what is known after one operation of a patch: with the patch's draft what is known
+    before is written to, as far as it is the draft's own."""
     try:
         return _step(draft or Draft(), document, operation)
     except (KeyError, TypeError, AttributeError, ValueError) as error:
@@ -220,7 +220,7 @@ def _changed(
 
 
 def may_be_list(parts: Parts, token: str) -> bool:
-    """Whether an element may come or go at a token."""
+    """True if an element may come or go at a token."""
     return (index(token) is not None or token == "-") and not parts.is_object()
 
 
@@ -244,8 +244,8 @@ def _dropped(parts: Parts, token: str) -> Parts:
 
 
 def _unmoved(parts: Parts, token: str) -> Dict[str, Part]:
-    """What stands where it stood, if that is a list in which an element came or went: what is in
-    front of it."""
+    """The parts that stand where they stood, if that is a list in which an element came or went:
+    those in front of it."""
     first = index(token)
 
     def stays(name: str, part: Part) -> bool:
@@ -279,6 +279,6 @@ def _size(value: Json) -> Json:
 
 
 def overlaid(view: View, slots: Slots, patch: Iterable[Operation]) -> Slots:
-    """What the slots of a view show when a patch is laid over them, as far as they tell it; of the
-    others each is as it was. `DoesNotFit` if it is known to be refused."""
+    """Returns what the slots of a view show when a patch is laid over them, as far as they tell it;
+    of the others each is as it was. `DoesNotFit` if it is known to be refused."""
     return slots_of(after(known_by(view, slots), patch), view, slots)

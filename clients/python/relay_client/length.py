@@ -1,11 +1,11 @@
-"""How long a text is that is sent, as the relay counts it."""
+"""The length of a text that is sent, as the relay counts it."""
 
 LONGEST = 1_056_768
 """Bytes of UTF-8. A longer text ends its connection without an answer, each time that it is
 sent."""
 
 BYTES = 4
-"""How many bytes a character takes at most."""
+"""The number of bytes that a character takes at most."""
 
 
 def ends_connection(text: str) -> bool:

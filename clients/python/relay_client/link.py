@@ -22,11 +22,14 @@ ON_THE_WAY = 31
 """With one request more on the way 32 replies could wait, and the relay would read nothing from
 this client until it drew one."""
 
+NO_ROOM = 404
+"""As what answers says that there is no room at the address."""
+
 TOO_LONG: Message = {"kind": "refused", "fault": "too-long", "at": None}
 """As the relay refuses a text that it still reads."""
 
 REPLIES = ("done", "refused", "watching", "resumed", "willing")
-"""What answers a request. The welcome does not."""
+"""The messages that answer a request. The welcome does not."""
 
 
 class Astray(Exception):
@@ -45,14 +48,14 @@ class Options:
 
 @dataclass(frozen=True)
 class Hearer:
-    """Who is told what becomes of the connections."""
+    """A listener that is told what becomes of the connections."""
 
     entered: Callable[[], None]
     """Welcomed: the first requests are to be asked by `ask_first`."""
     told: Callable[[Message], None]
     """A snapshot or a patch. May fail with `Astray`."""
     astray: Callable[[], None]
-    """What is held may be wrong. The connection is given up."""
+    """The slots that are held may be wrong. The connection is given up."""
     lost: Callable[[], None]
     turned: Callable[[State, Optional[Exception]], None]
     """`waiting`, with its cause if the handshake failed, or `connecting`."""
@@ -70,6 +73,7 @@ class RoomLink:
         self.is_closed = False
         self._link: Optional[Link] = None
         self._welcomed = False  # on the newest connection
+        self._was_entered = False  # by any connection
         self._away = False  # a connection was lost, and no other one is there
         self._due = False  # slots were promised, and are on their way
         self._slots_came = 0.0  # when they came that were due last
@@ -140,6 +144,8 @@ class RoomLink:
         try:
             while not self.is_closed:
                 cause = await self._connect()
+                if cause is not None and cause.status == NO_ROOM and not self._was_entered:
+                    return self._on.ended(cause)
                 if not self.is_closed:
                     await self._wait(cause)
         except Exception as error:
@@ -172,8 +178,8 @@ class RoomLink:
             self._lose()
 
     def _lose(self) -> None:
-        """What was sent has no answer any more, and only edits wait for the next connection, if
-        there is to be one."""
+        """Requests that were sent have no answer any more, and only edits wait for the next
+        connection, if there is to be one."""
         self._disarm()
         self._away = self._away or self._welcomed
         self._link, self.welcome, self._due = None, None, False
@@ -190,7 +196,7 @@ class RoomLink:
             self._drop()
 
     def _is_again(self, asked: Asked) -> bool:
-        """Whether it is sent on the next connection as well. A will that was taken is left there
+        """True if it is sent on the next connection as well. A will that was taken is left there
         anyhow."""
         if isinstance(asked, Will):
             return asked is not self._will
@@ -270,7 +276,7 @@ class RoomLink:
         return ahead or self._unsent.popleft()
 
     def _holds(self) -> bool:
-        """Whether nothing waits but values of places of which another one is on its way. The next
+        """True if nothing waits but values of places of which another one is on its way. The next
         one waits until that is answered, or something else is asked for: until then a newer one is
         sent for it."""
         settings = [asked.setting for asked in self._unsent]
@@ -278,7 +284,7 @@ class RoomLink:
         return all(setting is not None and setting.pointer in sent for setting in settings)
 
     def _text(self, asked: Asked, welcome: Message) -> Optional[str]:
-        """What is sent of a request. None if it is not sent, and has ended."""
+        """The text that is sent of a request. None if it is not sent, and has ended."""
         if isinstance(asked, Edit) and not asked.goes_to(welcome):
             return None
         request = {"id": self._ids + 1, **asked.request}
@@ -317,6 +323,7 @@ class RoomLink:
         if self.welcome is not None:
             raise Astray()
         self.welcome, self._welcomed, self._away = welcome, True, False
+        self._was_entered = True
         if self._will is not None:
             self.ask_first(self._will)
         self._on.entered()

@@ -1,4 +1,5 @@
-"""Which elements of a list are those of another one: the same parts, and values that are equal."""
+"""The elements of a list that are those of another one: the same parts, and values that are
+equal."""
 from __future__ import annotations
 
 import json
@@ -41,7 +42,7 @@ def matched(
 
 
 def text(kid: Node) -> Optional[str]:
-    """What was looked into may have lost something by then, so it stands for no value."""
+    """A part that was looked into may have lost something by then, so it stands for no value."""
     if kid.origin is not None and kid.is_open:
         return None
     return json.dumps(kid.value, sort_keys=True)

@@ -19,7 +19,7 @@ class Node:
     ) -> None:
         self.part = part
         self.origin = origin
-        """Where it stood; None for what was put into the draft."""
+        """The path at which it stood; None for what was put into the draft."""
         self.element = element
         """The innermost element of a list that it is, or is within."""
         self._kids: Optional[Kids] = None  # what stands in it now
@@ -40,7 +40,7 @@ class Node:
 
     @property
     def is_open(self) -> bool:
-        """Whether it was looked into, so that something in it may be another one."""
+        """True if it was looked into, so that something in it may be another one."""
         return self._kids is not None
 
     @property
@@ -56,7 +56,7 @@ class Node:
 
     @property
     def before(self) -> Kids:
-        """What stood in it; nothing, if it was put in."""
+        """The parts that stood in it; none, if it was put in."""
         if self._before is None:
             return [] if self.is_list else {}
         return self._before
@@ -99,7 +99,7 @@ class Node:
 
     @property
     def value(self) -> Json:
-        """What it is now, as JSON."""
+        """The value that it is now, as JSON."""
         if self._kids is None:
             return self.part
         if isinstance(self._kids, list):
@@ -108,7 +108,7 @@ class Node:
 
 
 class NotInView(LookupError):
-    """What a function asked for, the view does not show."""
+    """The view does not show what a function asked for."""
 
 
 def each(kids: Kids) -> "Iterator[Node]":

@@ -30,7 +30,7 @@ class Counter:
         self._edit: "Optional[Edit]" = None  # which has no answer yet
 
     def takes(self, edit: "Edit", welcome: Message) -> bool:
-        """Whether an edit can be sent now. Then it is on its way."""
+        """True if an edit can be sent now. Then it is on its way."""
         if self._edit is None and self._epoch == welcome["epoch"]:
             self._edit = edit
         return self._edit is edit
@@ -38,7 +38,7 @@ class Counter:
     def adding(
         self, edit: "Edit", welcome: Message
     ) -> Optional[Tuple[Message, Callable[[Message], None]]]:
-        """What adds a counter before an edit that waits for it: a request, and what is told its
+        """The request that adds a counter before an edit that waits for it, and what is told its
         answer. None if nothing is to be sent until something comes."""
         if self._edit is not None or self._adding is welcome:
             return None

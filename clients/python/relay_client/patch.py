@@ -44,7 +44,7 @@ def _step(draft: "Draft", value: Json, operation: Operation) -> Json:
 
 
 def has(value: Json, token: str) -> bool:
-    """Whether something stands at a token."""
+    """True if something stands at a token."""
     if isinstance(value, dict):
         return token in value
     place = index(token)

@@ -1,8 +1,8 @@
-"""How long a connection may be silent before it is given up."""
+"""The time for which a connection may be silent before it is given up."""
 from __future__ import annotations
 
 DOUBLINGS = 5
-"""How often the patience doubles at most."""
+"""The number of times that the patience doubles at most."""
 
 
 class Patience:

@@ -66,14 +66,15 @@ class Pending:
             self.done(edit, held)
 
     def all_seen(self) -> None:
-        """What is held is what the view shows now: those that are done touched no slot."""
+        """Says that what is held is what the view shows now: those that are done touched no
+        slot."""
         for edit in [edit for edit in self._edits if edit.rev is not None]:
             self._edits.remove(edit)
             edit.own.not_done()
 
 
 def laid_over(held: Held, edits: Iterable[Edit]) -> Slots:
-    """What is held, with edits laid over it."""
+    """The slots that are held, with edits laid over them."""
     document, slots = known_by(held.of.view, held.slots), held.slots
     for edit in edits:
         document = _after(document, edit)

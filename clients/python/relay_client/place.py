@@ -26,7 +26,7 @@ class Place:
 
     @property
     def value(self) -> Json:
-        """What is shown there; None if nothing is (`slot` tells that from a null)."""
+        """The value that is shown there; None if nothing is (`slot` tells that from a null)."""
         return _value(self.slot)
 
     @property
@@ -38,7 +38,7 @@ class Place:
 
     @property
     def confirmed(self) -> Json:
-        """What stands there as the relay has shown it, without the edits that wait."""
+        """The value that stands there as the relay has shown it, without the edits that wait."""
         slots = self._board.confirmed
         return None if slots is None else _value(self._slot(self._board.view, slots))
 

@@ -36,7 +36,7 @@ def spelled(path: Path) -> str:
 
 
 def overlap(one: str, other: str) -> bool:
-    """Whether one of two pointers leads to the other's value, or into it."""
+    """True if one of two pointers leads to the other's value, or into it."""
     return f"{one}/".startswith(f"{other}/") or f"{other}/".startswith(f"{one}/")
 
 
@@ -58,6 +58,8 @@ def check_room(url: str) -> None:
     if parts.scheme not in ("ws", "wss") or not parts.hostname:
         raise ValueError(f"{url}: an address begins with ws://HOST or wss://HOST")
     _, rooms, name = parts.path.rpartition("/rooms/")
+    if name != "watch" and re.search(r"/rooms/[\w-]+/watch\Z", parts.path, re.ASCII):
+        raise ValueError(f"{url}: leave out `/watch`, and connect with `read_only=True`")
     if not rooms or not _ROOM.fullmatch(name):
         raise ValueError(
             f"{url}: an address ends with /rooms/NAME, and a name is 1 to 64 ASCII letters, "

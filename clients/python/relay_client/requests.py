@@ -12,12 +12,12 @@ from .values import Json, Patch
 Message = Dict[str, Any]
 
 SENDINGS = 5
-"""How often an edit is sent at most: one that ends its connection each time has to come to an
-end."""
+"""The number of times that an edit is sent at most: one that ends its connection each time has to
+come to an end."""
 
 
 class Setting(NamedTuple):
-    """What an edit does that replaces the value of a place, and no more."""
+    """The effect of an edit that replaces the value of a place, and no more."""
 
     pointer: str
     optimistic: bool
@@ -36,12 +36,12 @@ class Asked:
 
     @property
     def request(self) -> Message:
-        """What is sent."""
+        """The message that is sent."""
         return self._request
 
     def ahead(self, welcome: Message) -> "Optional[Asked]":
-        """What has to be sent before it: nothing, another request, or itself while it has to
-        wait."""
+        """Returns what has to be sent before it: nothing, another request, or itself while it has
+        to wait."""
         return None
 
 
@@ -86,7 +86,7 @@ class Edit(Asked):
         self.run: Optional[int] = None
         """The epoch of the run to which it was sent last."""
         self.cause: Optional[Exception] = None
-        """Why it failed, if it did."""
+        """The cause of its failure, if it failed."""
         self._base, self._has_base, self._counter = base, has_base, counter
         self._ended, self._again, self._done_before = ended, again, done_before
         self._epoch = epoch  # the run of the base; None if the first connection decides
@@ -110,7 +110,7 @@ class Edit(Asked):
 
     @property
     def guarded(self) -> bool:
-        """Whether it may be sent after a while: it is refused if something else stands there than
+        """True if it may be sent after a while: it is refused if something else stands there than
         when it was made."""
         return self._has_base or _begins_with_test(self.patch)
 
@@ -158,9 +158,13 @@ class Edit(Asked):
         for answer in self._answers:
             if not answer.done():
                 answer.set_exception(cause)
-                if self.optimistic:
-                    answer.exception()  # nobody has to look at it: `on_taken_back` is told
         self._ended(self)
+
+    def look_at(self) -> None:
+        """Keeps asyncio from reporting that nobody looked at why it failed."""
+        for answer in self._answers:
+            if not answer.cancelled():
+                answer.exception()
 
     def done_at(self, rev: int) -> None:
         """It was done at that revision, or before it."""

@@ -1,4 +1,4 @@
-"""What a board was asked for and has not ended, for whoever waits for all of it."""
+"""Requests to a board that have not ended, for whoever waits for all of them."""
 from __future__ import annotations
 
 import asyncio

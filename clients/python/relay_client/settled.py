@@ -68,7 +68,7 @@ def _live(draft: Draft) -> List[Node]:
 
 
 def _is_like(before: Node, kid: Node) -> bool:
-    """Whether at least half of it is the same."""
+    """True if at least half of it is the same."""
     if before.is_partial or not before.is_container or before.is_list != kid.is_list:
         return False
     old, made = before.kids, kid.kids
@@ -88,7 +88,7 @@ def _made(kids: Kids, make: Callable[[Node], Node]) -> Kids:
 
 
 def _tell(draft: Draft, kid: Node) -> None:
-    """What stands in a value that was put in is told with it."""
+    """Tells, with a value that was put in, what stands in it."""
     if not kid.is_open:
         return
     for part in each(kid.kids):

@@ -1,4 +1,4 @@
-"""Whether a patch surely touches a slot (docs/PROTOCOL.md, "What a change means to a slot"): of
+"""Finds patches that surely touch a slot (docs/PROTOCOL.md, "What a change means to a slot"): of
 those the relay tells a watcher."""
 from __future__ import annotations
 
@@ -16,9 +16,9 @@ class Place:
     path: Path
     """With the index that `-` names, if that is known."""
     in_list: Optional[bool]
-    """Whether it is a position in a list; None if that is not known."""
+    """True if it is a position in a list; None if that is not known."""
     exchanged: bool
-    """Whether another value was merely set there, or may have been."""
+    """True if another value was merely set there, or may have been."""
 
 
 def place_of(document: Part, path: Path, exchanged: bool = False) -> Place:
@@ -37,7 +37,7 @@ def place_of(document: Part, path: Path, exchanged: bool = False) -> Place:
 
 
 def touches(document: Part, patch: Iterable[Operation], view: View) -> bool:
-    """Whether a patch surely touches a slot of a view. `DoesNotFit` if it is known to be
+    """True if a patch surely touches a slot of a view. `DoesNotFit` if it is known to be
     refused."""
     draft, touched = Draft(), False
     for operation in patch:
@@ -53,7 +53,7 @@ def touches(document: Part, patch: Iterable[Operation], view: View) -> bool:
 
 
 def without_origin(document: Part, operation: Operation) -> Part:
-    """What an operation adds to: a move has taken its value away by then."""
+    """The document to which an operation adds: a move has taken its value away by then."""
     if operation["op"] != "move":
         return document
     return step(document, {"op": "remove", "path": operation["from"]})
@@ -73,7 +73,7 @@ def _places(document: Part, operation: Operation) -> List[Place]:
 
 
 def _may_stay(document: Part, origin: Place, to: Place) -> bool:
-    """Whether a move may lead to its own place, and so change nothing: the last element of a list
+    """True if a move may lead to its own place, and so change nothing: the last element of a list
     to the end of it, which may not be known."""
     if origin.path == to.path:
         return True

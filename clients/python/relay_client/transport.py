@@ -19,7 +19,7 @@ class LinkLost(Exception):
 
 
 class Link(Protocol):
-    """What a client needs of a connection."""
+    """The interface that a client needs of a connection."""
 
     def __aiter__(self) -> AsyncIterator[str]:
         """The texts of the relay, until the connection is lost."""

@@ -18,7 +18,7 @@ from .touch import place_of, without_origin
 from .values import Json, Operation, Patch
 
 KEPT = 100
-"""How many edits can be undone at most."""
+"""The number of edits that can be undone at most."""
 LONGEST = 64
 """Operations in an edit."""
 
@@ -31,11 +31,11 @@ class _NotShown(Exception):
 class Inverse:
     patch: Patch
     puts_back: bool
-    """Whether it puts a member back, and so overwrites what others may have put there."""
+    """True if it puts a member back, and so overwrites what others may have put there."""
 
 
 def inverse(document: Part, patch: Iterable[Operation]) -> Optional[Inverse]:
-    """What undoes a patch of a document of which this is known. None if that is too little, or
+    """The inverse of a patch of a document of which this is known. None if that is too little, or
     there is nothing to undo."""
     backwards: List[Patch] = []
     try:
@@ -52,7 +52,7 @@ def inverse(document: Part, patch: Iterable[Operation]) -> Optional[Inverse]:
 
 
 def fits(document: Part, patch: Patch) -> bool:
-    """Whether an inverse can be applied to a document of which this is known, and overwrites
+    """True if an inverse can be applied to a document of which this is known, and overwrites
     nothing that it did not compare."""
     draft = Draft()
     try:
@@ -75,7 +75,7 @@ def _puts_back(document: Part, patch: Patch) -> bool:
 
 
 def _comes_to_member(document: Part, operation: Operation) -> bool:
-    """Whether it adds something elsewhere than in a list."""
+    """True if it adds something elsewhere than in a list."""
     if operation["op"] not in ("add", "move"):
         return False
     return not isinstance(
@@ -88,7 +88,7 @@ def _target(document: Part, operation: Operation) -> Part:
 
 
 def _backwards(document: Part, after: Part, operation: Operation) -> Patch:
-    """What undoes one operation."""
+    """The patch that undoes one operation."""
     op = operation["op"]
     if op == "test" or (op == "move" and operation["from"] == operation["path"]):
         return []
@@ -122,8 +122,8 @@ def _moved_back(document: Part, origin: Path, path: Path, replaced: List[Json]) 
 
 
 def _put_back(after: Part, path: Path, value: Json) -> Patch:
-    """What undoes a removal: the value comes between the elements that stood around it, or is a
-    member again."""
+    """The patch that undoes a removal: the value comes between the elements that stood around it,
+    or is a member again."""
     add, parent = _add(path, value), at(after, path[:-1])
     if not isinstance(parent, list):
         return [add]
@@ -135,7 +135,7 @@ def _put_back(after: Part, path: Path, value: Json) -> Patch:
 
 
 def _is_member(document: Part, path: Path) -> bool:
-    """Whether an object has that member; not, if the path is a place in a list."""
+    """True if an object has that member; false if the path is a place in a list."""
     in_list, part = place_of(document, path).in_list, at(document, path)
     if in_list is None or (not in_list and part is UNKNOWN):
         raise _NotShown()
@@ -176,7 +176,7 @@ class OwnEdit:
 
     @property
     def is_known(self) -> bool:
-        """Whether what undoes it is known by now."""
+        """True if what undoes it is known by now."""
         inverse = self.inverse
         return inverse.done() and not inverse.cancelled() and inverse.result() is not None
 

@@ -1,4 +1,4 @@
-"""What JSON values the relay takes, and the forms of patches, views and slots."""
+"""The JSON values that the relay takes, and the forms of patches, views and slots."""
 from __future__ import annotations
 
 import re
@@ -13,14 +13,14 @@ Shown = Union[str, Dict[str, str]]
 members that has."""
 View = List[Shown]
 Slot = List[Json]
-"""What one pointer of a view shows: `[value]`, or `[]` if it leads to nothing."""
+"""The slot that one pointer of a view shows: `[value]`, or `[]` if it leads to nothing."""
 Slots = List[Slot]
 """One for each pointer of a view."""
 State = Literal["connecting", "open", "waiting", "closed"]
 
 DEEPEST = 124
-"""How many containers a value may nest: a request nests three more around it, and the relay reads
-127."""
+"""The number of containers that a value may nest: a request nests three more around it, and the
+relay reads 127."""
 
 _HALF = re.compile("[\ud800-\udfff]")
 

@@ -1,5 +1,5 @@
-"""What the relay is to do when this client's session ends (docs/PROTOCOL.md, "Wills"). A will goes
-with its session, so each connection leaves it again."""
+"""A will: what the relay is to do when this client's session ends (docs/PROTOCOL.md, "Wills"). It
+goes with its session, so each connection leaves it again."""
 from __future__ import annotations
 
 import asyncio

@@ -1,4 +1,4 @@
-"""What a board shows and asks, with a relay that the test plays."""
+"""Tests of what a board shows and asks, with a relay that the test plays."""
 import asyncio, unittest
 from fake import (
     URL,
@@ -19,7 +19,7 @@ PUSH = {"op": "add", "path": "/cards/-", "value": "tea"}
 
 
 class Refusals(unittest.IsolatedAsyncioTestCase):
-    """What is refused before anything is sent."""
+    """Requests that are refused before anything is sent."""
 
     async def test_numbers_that_the_relay_does_not_take_are_named_by_their_path(self):
         relay = FakeRelay()
@@ -81,7 +81,7 @@ class Refusals(unittest.IsolatedAsyncioTestCase):
 class Connections(unittest.IsolatedAsyncioTestCase):
     async def test_a_failed_handshake_has_a_cause(self):
         relay = FakeRelay(
-            relay_client.HandshakeFailed("refused", 404),
+            relay_client.HandshakeFailed("refused", 503),
             relay_client.HandshakeFailed("unreachable"),
         )
         states = []
@@ -92,8 +92,27 @@ class Connections(unittest.IsolatedAsyncioTestCase):
         )
         await relay.until_link(1)
         causes = [(state, cause and (cause.reason, cause.status)) for state, cause in states]
-        refused, unreachable = ("waiting", ("refused", 404)), ("waiting", ("unreachable", None))
+        refused, unreachable = ("waiting", ("refused", 503)), ("waiting", ("unreachable", None))
         self.assertEqual(causes, [refused, ("connecting", None), unreachable, ("connecting", None)])
+        await board.close()
+
+    async def test_a_404_ends_a_board_that_was_never_in_its_room(self):
+        relay, states = FakeRelay(relay_client.HandshakeFailed("refused", 404)), []
+        with self.assertLogs("relay_client", "WARNING") as logged:
+            board = relay_client.connect(
+                "ws://h/rooms/a?b=c", view=[""], open_link=relay.open_link
+            )
+            with self.assertRaisesRegex(relay_client.HandshakeFailed, "leave out the `\\?`"):
+                await board.ready
+        self.assertEqual((board.state, relay.links), ("closed", []))
+        self.assertTrue(logged.output[0].endswith("; it is given up"), logged.output)
+        # Once it was there, it comes back.
+        relay = FakeRelay()
+        board = await relay.begin(["/n"], [[1]])
+        relay.answers.append(relay_client.HandshakeFailed("refused", 404))
+        await relay.cut()
+        await relay.until_link(2)
+        self.assertEqual(relay.answers, [])
         await board.close()
 
     async def test_a_real_handshake_that_fails_says_why(self):
@@ -296,7 +315,7 @@ class Optimistic(unittest.IsolatedAsyncioTestCase):
         self.shows([[9], [[]]], [[9], [[]]], 0)
 
     async def test_nothing_was_missed(self):
-        """What was done changed no slot, then: no message will come."""
+        """The edit that was done changed no slot, then: no message will come."""
         self.board.edit([SET], optimistic=True)
         await settle()
         await self.relay.say(done(self.relay.last["id"], 2))

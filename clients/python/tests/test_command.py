@@ -74,6 +74,19 @@ async def run(*words, typed=b""):
     return await ended(await begin(*words), typed)
 
 
+@asynccontextmanager
+async def served():
+    """The port of the program that RELAY names."""
+    words = [os.environ["RELAY"], "serve", "--port", "0"]
+    server = await asyncio.create_subprocess_exec(*words, stdout=PIPE)
+    try:
+        line = (await asyncio.wait_for(server.stdout.readline(), PATIENCE)).decode()
+        yield line.split()[1]
+    finally:
+        server.kill()
+        await server.wait()
+
+
 class Get(unittest.IsolatedAsyncioTestCase):
     async def test_each_value_has_a_line(self):
         async with Relay().listening() as url:
@@ -166,15 +179,37 @@ class Words(unittest.IsolatedAsyncioTestCase):
             ([], "required"),
             (["put", url], "invalid choice"),
             (["get", "ws://127.0.0.1:1/room"], "an address ends with /rooms/NAME"),
+            (["get", f"{url}/watch"], "leave out `/watch`, and connect with `read_only=True`"),
             (["get", url, "n"], "'n' is no JSON Pointer"),
             (["watch", url, "--timeout", "0"], "0 is no time"),
             (["edit", url, "[{"], "no JSON"),
             (["edit", url, '[{"value":1.5}]'], "/0/value: 1.5 is no whole number"),
+            (["edit", url, '{"op":"add"}'], "a patch is a list of operations"),
+            (["edit", url, "[1]"], "operation 0 (the first is 0) is no object with"),
+            (["edit", url, '[{"op":["add"]}]'], "operation 0 (the first is 0) is no object"),
+            (["edit", url, '[{"op":"put","path":""}]'], "is no object with an `op` of add,"),
+            (["edit", url, '[{"op":"add","path":"/a"}]'], "(the first is 0) needs `value`"),
+            (["edit", url, '[{"op":"move","path":""}]'], "(the first is 0) needs `from`"),
+            (["edit", url, '[{"op":"remove","path":1}]'], "`path` is no text"),
+            (["edit", url, '[{"op":"remove","path":"n"}]'], "'n' is no JSON Pointer"),
             (["edit", url, "[]", "--base", "-1"], "-1 is no revision"),
         ]:
             status, printed, told = await run(*words)
             self.assertEqual((status, printed), (2, ""), words)
             self.assertIn(said, told)
+
+    @unittest.skipUnless(os.environ.get("RELAY"), "RELAY names no program")
+    async def test_an_address_of_no_room_is_a_matter_of_usage(self):
+        async with served() as port:
+            for path, said in [
+                ("/rooms/play?x=1", "with 404: leave out the `?` and what follows"),
+                ("/b/rooms/play", "with 404: a room is at /rooms/NAME, and this path is /b/"),
+            ]:
+                for words in [["get"], ["watch"], ["edit", INSERT]]:
+                    url = f"ws://127.0.0.1:{port}{path}"
+                    status, printed, told = await run(words[0], url, *words[1:])
+                    self.assertEqual((status, printed), (2, ""), words)
+                    self.assertIn(said, told)
 
     async def test_no_relay_is_said_at_once(self):
         for words in [["get"], ["watch"], ["edit", INSERT]]:
@@ -198,7 +233,7 @@ class Words(unittest.IsolatedAsyncioTestCase):
 
 EXAMPLE = re.compile(r"^  (?:relay-client|echo) (?:.*\|\n)?.*$", re.MULTILINE)
 PRINTED = ['{"rev":1}\n', '{"n":1}\n', "1\n", '{"rev":1,"slots":[[1]]}\n', '{"rev":2}\n']
-"""What the relay's protocol has for each, in a new room."""
+"""The output that the relay's protocol has for each, in a new room."""
 
 
 class Help(unittest.IsolatedAsyncioTestCase):
@@ -207,17 +242,10 @@ class Help(unittest.IsolatedAsyncioTestCase):
         status, told, _ = await run("--help")
         examples = EXAMPLE.findall(told)
         self.assertEqual((status, len(examples)), (0, len(PRINTED)))
-        words = [os.environ["RELAY"], "serve", "--port", "0"]
-        server = await asyncio.create_subprocess_exec(*words, stdout=PIPE)
-        try:
-            line = (await asyncio.wait_for(server.stdout.readline(), PATIENCE)).decode()
-            port = line.split()[1]
+        async with served() as port:
             for example, printed in zip(examples, PRINTED):
                 outcome = await self.typed(example.replace(":8080/", f":{port}/"))
                 self.assertEqual(outcome, (0, printed, ""), example)
-        finally:
-            server.kill()
-            await server.wait()
 
     async def typed(self, line):
         """Into a shell that has the command."""

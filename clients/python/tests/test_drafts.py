@@ -14,7 +14,7 @@ OBJECTS = (dict, DraftObject)
 
 
 def drafted(document, make, guard="values"):
-    """What a function makes of a document: by a draft, and by itself."""
+    """Returns what a function makes of a document: by a draft, and by itself."""
     draft, plain = Draft(known_by([""], [[document]])), copy.deepcopy(document)
     make(draft.at(()))
     make(plain)
@@ -187,8 +187,8 @@ def paths(part, path=""):
 
 
 def other_edit(chance, document):
-    """What somebody else does. It makes no list of an object and no object of a list, which no test
-    of a guard says."""
+    """An edit that somebody else does. It makes no list of an object and no object of a list, which
+    no test of a guard says."""
     path, part = chance.choice(list(paths(document)))
     made = value(chance, 1)
     if isinstance(part, list) and chance.random() < 0.7:

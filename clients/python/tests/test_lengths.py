@@ -21,7 +21,7 @@ class Long(unittest.IsolatedAsyncioTestCase):
         waits = self.board.edit(PUSH)
         await self.relay.until_link(1)
         await self.relay.say(welcome(0))
-        with self.assertRaisesRegex(relay_client.Refused, "^too-long$"):
+        with self.assertRaisesRegex(relay_client.Refused, "^too-long: a request"):
             await soon(self.board.ready)
         with self.assertRaises(relay_client.Closed):
             await soon(waits)
@@ -44,7 +44,7 @@ class Long(unittest.IsolatedAsyncioTestCase):
         for character in ["x", "\u00e9", "\u20ac", "\U0001f600"]:
             longest = self.longest(character)
             await self.is_sent(longest)
-            with self.assertRaisesRegex(relay_client.Refused, "^too-long$") as caught:
+            with self.assertRaisesRegex(relay_client.Refused, "^too-long: a request") as caught:
                 await soon(self.board.edit(written(self.longest(character) + "x"), base=1))
             self.assertEqual(self.relay.last["patch"], written(longest))
         self.assertEqual((self.board.state, len(self.relay.links)), ("open", 1))
@@ -61,7 +61,7 @@ class Long(unittest.IsolatedAsyncioTestCase):
         await settle()
         self.assertEqual(self.relay.last["patch"], written(value))
         await self.relay.say(refused(None, "too-long"))
-        with self.assertRaisesRegex(relay_client.Refused, "^too-long$"):
+        with self.assertRaisesRegex(relay_client.Refused, "^too-long: a request"):
             await soon(answer)
 
 

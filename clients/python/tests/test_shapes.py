@@ -1,6 +1,6 @@
 """Documents of another shape than an application expects: anybody may write anything anywhere."""
 import asyncio, contextlib, importlib.util, io, os, unittest
-from fake import FakeRelay, patch, refused, relay_client, settle
+from fake import FakeRelay, patch, refused, relay_client, settle, unawaited
 
 ROOT = os.path.dirname(os.path.dirname(os.path.dirname(os.path.dirname(os.path.abspath(__file__)))))
 SHAPES = [None, True, 0, 7, "", "text", [], [1], [[1]], [{"0": 1}], {}, {"0": 1}]
@@ -48,10 +48,9 @@ class Shapes(unittest.IsolatedAsyncioTestCase):
             place = board.at(pointer)
             with contextlib.suppress(LookupError):
                 place.subscribe(lambda value: None)
-                place.set("new").add_done_callback(
-                    lambda answer: answer.cancelled() or answer.exception()
-                )
-        board.edit([{"op": "move", "from": "/todo/0", "path": "/here/ann"}], optimistic=True)
+                unawaited(place.set("new"))
+        move = {"op": "move", "from": "/todo/0", "path": "/here/ann"}
+        unawaited(board.edit([move], optimistic=True))
         await settle()
         for number, slot in enumerate(slots):
             await relay.say(

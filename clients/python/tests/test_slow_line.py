@@ -82,7 +82,7 @@ async def promised(relay, number):
 
 
 async def lasts(link):
-    """How many seconds a connection lasts on which nothing comes any more."""
+    """The seconds that a connection lasts on which nothing comes any more."""
     loop = asyncio.get_running_loop()
     began = loop.time()
     while not link.aborted:
@@ -129,7 +129,7 @@ class Gone(unittest.IsolatedAsyncioTestCase):
     """A connection that is dead in one direction is found, later with each one in a row."""
 
     async def given_up(self, relay, number):
-        """How long the connection of that number lasts, on which slots are promised."""
+        """The seconds that the connection of that number lasts, on which slots are promised."""
         await promised(relay, number)
         return await lasts(relay.link)
 

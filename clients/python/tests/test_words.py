@@ -112,12 +112,20 @@ class Words(unittest.IsolatedAsyncioTestCase):
             board = relay_client.connect(URL, view=[""], open_link=relay.open_link, first_wait=0)
             await relay.until_link(1)
         await board.close()
-        says = f"nothing answers at {URL}: start the relay there, or connect to where it listens"
+        says = f"nothing answers at {URL}: start the relay there, or check the address and the port"
         self.assertEqual(
             [line.getMessage() for line in logged.records], [f"{says}; it is tried again"]
         )
-        failed = relay_client.HandshakeFailed("refused", 404)
-        self.assertIn("with 404: an address ends with /rooms/NAME", str(failed))
+        refuses = "refuses the connection, with 404:"
+        for url, words in [
+            ("ws://h/b/rooms/a", "a room is at /rooms/NAME, and this path is /b/rooms/a"),
+            ("ws://h/rooms/a?b=c", "leave out the `?` and what follows"),
+            ("ws://h/rooms/a/watch", "what answers there has no rooms, or none to watch only"),
+        ]:
+            failed = relay_client.HandshakeFailed("refused", 404, url=url)
+            self.assertEqual(str(failed), f"{url} {refuses} {words}")
+        missing = relay_client.Refused("missing", 0)
+        self.assertIn("missing at 0: nothing stands there: look again", str(missing))
 
 
 if __name__ == "__main__":

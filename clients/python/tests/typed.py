@@ -1,4 +1,4 @@
-"""What an application writes, as `mypy --strict` reads it."""
+"""The code that an application writes, as `mypy --strict` reads it."""
 from __future__ import annotations
 
 from typing import List, Optional

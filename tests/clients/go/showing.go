@@ -14,8 +14,8 @@ type shownEdit struct {
 	Epoch int64       `json:"epoch"`
 }
 
-// What is shown over time, beside the edits that were asked for: each line says how the slots were,
-// how many edits had been asked for, and which of those had been taken back.
+// showing is what is shown over time, beside the edits that were asked for: each line says how the
+// slots were, how many edits had been asked for, and which of those had been taken back.
 type showing struct {
 	board   *relay.Board
 	asking  sync.Mutex // one edit is asked for at a time

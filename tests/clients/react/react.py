@@ -14,7 +14,7 @@ sys.path.insert(0, str(HERE.parent))
 from browser import Browser, Page
 from server import Relay
 
-LARGEST = 16 * 1024
+LARGEST = 18 * 1024
 """Bytes of a bundle that has `connect` alone, compressed."""
 ROOM = {"cards": ["milk", "bread"], "here": {}}
 
@@ -108,7 +108,7 @@ async def changes(page):
 
 
 async def presence(page, relay):
-    """Who is renamed stays one, and who goes is gone."""
+    """One who is renamed stays one, and one who goes is gone."""
     await page.until(text("here"), "Bob")
     _, [[here]] = await relay.shows("react", ["/here"])
     same([entry["name"] for entry in here.values()], ["Bob"])
@@ -137,7 +137,7 @@ def on_a_server(folder):
 
 
 def weighs(folder):
-    """What is not asked for is shaken off."""
+    """Code that is not asked for is shaken off."""
     sizes = {}
     for name, body in {
         "connect": 'import { connect } from "@bolsteregret/relay"; globalThis.it = connect;',

@@ -36,7 +36,7 @@ public final class Board implements AutoCloseable {
     private static final Pattern ROOM =
             Pattern.compile("wss?://[^/?#]+/(?:[^?#]*/)?rooms/[A-Za-z0-9_-]{1,64}");
 
-    /** How often an edit is made anew at most when others are faster. */
+    /** The number of times that an edit is made anew at most when others are faster. */
     private static final int TRIES = 20;
 
     private static final long PAUSE = 10;
@@ -63,7 +63,7 @@ public final class Board implements AutoCloseable {
     /** Slots were asked for anew, to see whether they have all that was done. */
     private boolean isAsking;
     private Change shown;
-    /** What closed it; null if nothing did but {@link #close}. */
+    /** The fault that closed it; null if nothing did but {@link #close}. */
     private RelayException closedBy;
 
     private Board(URI address, List<Shown> view, Options options) {
@@ -85,6 +85,10 @@ public final class Board implements AutoCloseable {
      */
     public static Board connect(String address, Options options, List<Shown> view) {
         if (!ROOM.matcher(address).matches()) {
+            if (address.matches("wss?://.+/rooms/[A-Za-z0-9_-]+/watch")) {
+                String advice = ": leave out `/watch`, and use Options.readOnly(true)";
+                throw new IllegalArgumentException(address + advice);
+            }
             throw new IllegalArgumentException(address + " is not ws://HOST/rooms/NAME");
         }
         String target = options.isReadOnly ? address + "/watch" : address;
@@ -105,7 +109,7 @@ public final class Board implements AutoCloseable {
         return ready;
     }
 
-    /** What is shown; empty before the first slots. */
+    /** Returns what is shown; empty before the first slots. */
     public Optional<Change> shown() {
         synchronized (lock) {
             return Optional.ofNullable(shown);
@@ -130,7 +134,10 @@ public final class Board implements AutoCloseable {
         return () -> listeners.remove(own);
     }
 
-    /** What is shown, and then each change until the board is closed; a slow one misses some. */
+    /**
+     * Publishes what is shown, and then each change until the board is closed; a slow one misses
+     * some.
+     */
     public Flow.Publisher<Change> changes() {
         return newest;
     }
@@ -326,7 +333,7 @@ public final class Board implements AutoCloseable {
 
     // What becomes of them. All that follows is called with the lock held.
 
-    /** What an application's function throws is not the board's: its thread reports it. */
+    /** Runs an application's function. What it throws is not the board's: its thread reports it. */
     private void tell(Runnable what) {
         executor.execute(() -> {
             try {

@@ -6,7 +6,8 @@ import java.util.List;
 import java.util.Optional;
 
 /**
- * What a board shows. Nobody writes to its values, and nobody may.
+ * The state that a board shows. Nobody writes to its values, and nobody may: change a
+ * {@code deepCopy}.
  *
  * @param slots one for each pointer of the view: its value, or nothing if it leads to none; what
  *     the relay has shown, with the optimistic edits that wait laid over it

@@ -7,7 +7,7 @@ public interface Connector {
     /** Begins a handshake. The receiver is told what becomes of it, from any thread, in order. */
     void open(URI address, Receiver receiver);
 
-    /** What hears a connection. */
+    /** Hears a connection. */
     interface Receiver {
         void opened(Socket socket);
 

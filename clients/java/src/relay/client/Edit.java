@@ -11,7 +11,7 @@ import java.util.function.Consumer;
  * is done.
  */
 final class Edit extends Request {
-    /** Why it was made, for undo. */
+    /** The reason for which it was made, for undo. */
     enum Role {
         EDIT,
         UNDO,
@@ -31,7 +31,7 @@ final class Edit extends Request {
     long rev;
     /** The run to which it was sent last. */
     long run;
-    /** Why it failed; null if it did not. */
+    /** The cause of its failure; null if it did not fail. */
     RelayException cause;
 
     private final boolean hasBase;

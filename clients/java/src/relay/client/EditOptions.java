@@ -1,7 +1,7 @@
 package relay.client;
 
 /**
- * How an edit is made.
+ * Options for how an edit is made.
  *
  * @param isOptimistic whether it shows at once, and is taken back if it fails
  * @param base the one revision on which it is done; null if any will do

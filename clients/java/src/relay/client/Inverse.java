@@ -7,8 +7,8 @@ import java.util.Deque;
 import java.util.List;
 
 /**
- * What takes a patch back, as far as the slots tell: each operation backwards, behind tests that
- * nobody changed since what it did.
+ * Takes a patch back, as far as the slots tell: each operation backwards, behind tests that nobody
+ * changed since what it did.
  */
 final class Inverse {
     /** An edit has no more operations. */
@@ -37,7 +37,7 @@ final class Inverse {
         return isShort && fits(inverse.known, whole) ? whole : null;
     }
 
-    /** Whether an inverse can be done to this, and puts no member where one may stand. */
+    /** True if an inverse can be done to this, and puts no member where one may stand. */
     static boolean fits(Known known, Patch patch) {
         Draft draft = new Draft();
         try {

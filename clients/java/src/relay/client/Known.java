@@ -8,9 +8,9 @@ import java.util.List;
 import java.util.Optional;
 
 /**
- * What the slots of a view tell of their document, and of those to which patches lead: the values
- * at some paths of which none leads into another. A value is missing if nothing stands there, and
- * null if it is not known any more. Of what no value slot shows nothing is known.
+ * Holds what the slots of a view tell of their document, and of those to which patches lead: the
+ * values at some paths of which none leads into another. A value is missing if nothing stands
+ * there, and null if it is not known any more. Of what no value slot shows nothing is known.
  */
 final class Known {
     private record Root(List<String> path, JsonNode value) {}
@@ -68,7 +68,9 @@ final class Known {
 
     // What patches make of it.
 
-    /** What is known after a patch. Fails with {@link Misfit} if it is known to be refused. */
+    /**
+     * Returns what is known after a patch. Fails with {@link Misfit} if it is known to be refused.
+     */
     Known after(Patch patch) {
         Draft draft = new Draft();
         Known known = this;
@@ -112,12 +114,12 @@ final class Known {
         return at(path);
     }
 
-    /** How a change within a root's value makes another one of it. */
+    /** A change within a root's value, which makes another one of it. */
     private interface Within {
         JsonNode value(JsonNode whole, List<String> rest);
     }
 
-    /** How a change at a path makes another value of a root at it or below it. */
+    /** A change at a path, which makes another value of a root at it or below it. */
     private interface Above {
         JsonNode value(Root root, List<String> rest);
     }
@@ -140,7 +142,7 @@ final class Known {
         return new Known(changed);
     }
 
-    /** Whether a root may be moved by what comes or goes at a path, if that is one in a list. */
+    /** True if a root may be moved by what comes or goes at a path, if that is one in a list. */
     private static boolean mayMove(Root root, List<String> path) {
         int last = path.size() - 1;
         boolean isBeside = Pointer.startsWith(root.path, path.subList(0, last));

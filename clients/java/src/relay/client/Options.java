@@ -10,11 +10,11 @@ import java.util.function.BiConsumer;
 import java.util.function.Consumer;
 
 /**
- * How a board behaves; each has a default. Functions are called by the board's {@link #executor},
- * one after the other. Options are not to be changed once a board has them.
+ * Options for how a board behaves; each has a default. Functions are called by the board's
+ * {@link #executor}, one after the other. Options are not to be changed once a board has them.
  */
 public final class Options {
-    /** Which edits that are made while the connection is lost are sent later. */
+    /** The edits made while the connection is lost that are sent later. */
     public enum Queue {
         ALL,
         /** Those with a base or with a {@code test} first. Others are refused, as {@code away}. */

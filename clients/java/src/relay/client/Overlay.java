@@ -70,7 +70,7 @@ final class Overlay {
         return slots;
     }
 
-    /** Whether a patch surely touches a slot of a view, so that the relay tells a watcher of it. */
+    /** True if a patch surely touches a slot of a view, so that the relay tells a watcher of it. */
     static boolean touches(Patch patch, List<Shown> view) {
         return patch.operations().stream().anyMatch(operation ->
                 view.stream().anyMatch(shown -> !shown.isSize() && touches(operation, shown)));

@@ -67,7 +67,7 @@ public record Patch(List<Operation> operations) {
         return new Patch(longer);
     }
 
-    /** Whether it is refused if something else stands there than when it was made. */
+    /** True if it is refused if something else stands there than when it was made. */
     boolean isGuarded() {
         return !operations.isEmpty() && operations.get(0).op().equals("test");
     }

@@ -23,7 +23,7 @@ public final class Place {
         path = Pointer.tokens(pointer);
     }
 
-    /** What is shown there; empty if nothing is. A JSON null is a value. */
+    /** The value that is shown there; empty if nothing is. A JSON null is a value. */
     public Optional<JsonNode> value() {
         Change shown = shown();
         return in(shown.view(), shown.slots());
@@ -40,7 +40,7 @@ public final class Place {
         });
     }
 
-    /** What the relay has shown there, without edits that wait. */
+    /** The value that the relay has shown there, without edits that wait. */
     public Optional<JsonNode> confirmed() {
         Change shown = shown();
         return in(shown.view(), shown.confirmed());

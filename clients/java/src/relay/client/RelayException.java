@@ -1,6 +1,8 @@
 package relay.client;
 
-/** How what was asked for failed, or why there is no connection. */
+import java.net.URI;
+
+/** The failure of what was asked for, or the cause if there is no connection. */
 public abstract class RelayException extends RuntimeException {
     private static final long serialVersionUID = 1;
 
@@ -23,13 +25,17 @@ public abstract class RelayException extends RuntimeException {
         private static final long serialVersionUID = 1;
         /** The word of the fault (docs/PROTOCOL.md, "Messages"). */
         public final String fault;
-        /** Which operation or pointer is at fault, counted from 0; null if no single one is. */
+        /** The operation or pointer that is at fault, counted from 0; null if no single one is. */
         public final Integer at;
         /** The room's revision, if the fault is {@code stale}; else null. */
         public final Long rev;
 
         Refused(String fault, Integer at, Long rev) {
-            super(fault + (at == null ? "" : " at " + at) + (rev == null ? "" : ", at " + rev));
+            super(
+                    fault
+                            + (at == null ? "" : " at " + at)
+                            + (rev == null ? "" : ", the room is at revision " + rev)
+                            + Advice.of(fault));
             this.fault = fault;
             this.at = at;
             this.rev = rev;
@@ -66,16 +72,49 @@ public abstract class RelayException extends RuntimeException {
         }
     }
 
-    /** There is no connection. The board goes on trying. */
+    /**
+     * There is no connection. The board goes on trying, unless the first answer is a 404: then the
+     * address is none of a room.
+     */
     public static final class HandshakeFailed extends RelayException {
         private static final long serialVersionUID = 1;
+        private static final String UNREACHABLE = "the relay cannot be reached";
+        private static final String FULL =
+                "it is full (--sessions, --rooms), --closed, or stopping";
         /** The status of the answer, as 503 of a relay without a place; null if none came. */
         public final Integer status;
 
         public HandshakeFailed(Integer status, Throwable cause) {
-            super(status == null ? "the relay cannot be reached" : "refused with " + status);
+            this(status, cause, status == null ? UNREACHABLE : "refused with " + status);
+        }
+
+        private HandshakeFailed(Integer status, Throwable cause, String words) {
+            super(words);
             this.status = status;
             if (cause != null) initCause(cause);
+        }
+
+        /** The same, with the address. */
+        HandshakeFailed at(URI address) {
+            return new HandshakeFailed(status, getCause(), words(address));
+        }
+
+        private String words(URI address) {
+            if (status == null) return UNREACHABLE + ", at " + address;
+            String words = address + " refuses the connection, with " + status;
+            if (status == 404) return words + ": " + wrongAddress(address);
+            return status == 503 ? words + ": " + FULL : words;
+        }
+
+        /** Tells what is wrong with an address, as far as it shows. */
+        private static String wrongAddress(URI address) {
+            String path = String.valueOf(address.getPath());
+            if (!path.matches("/rooms/[A-Za-z0-9_-]+(/watch)?")) {
+                return "a room is at /rooms/NAME, and this path is " + path;
+            }
+            return address.getQuery() == null
+                    ? "what answers there has no rooms, or none to watch only"
+                    : "leave out the `?` and what follows";
         }
     }
 }

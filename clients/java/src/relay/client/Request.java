@@ -9,7 +9,7 @@ class Request {
     final ObjectNode body;
     private final Consumer<JsonNode> answered;
     long id;
-    /** When it was sent, by {@link System#nanoTime}. */
+    /** The time at which it was sent, by {@link System#nanoTime}. */
     long sentAt;
 
     Request(ObjectNode body, Consumer<JsonNode> answered) {

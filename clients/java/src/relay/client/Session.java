@@ -10,6 +10,7 @@ import java.util.ArrayDeque;
 import java.util.ArrayList;
 import java.util.Deque;
 import java.util.List;
+import java.util.Objects;
 import java.util.Set;
 import java.util.concurrent.Executors;
 import java.util.concurrent.ScheduledExecutorService;
@@ -27,6 +28,9 @@ final class Session {
 
     /** Bytes of a text. A longer one ends its connection, each time that it is sent. */
     private static final int LONGEST = 1_056_768;
+
+    /** As what answers says that there is no room at the address. */
+    private static final int NO_ROOM = 404;
 
     private static final int DOUBLINGS = 5;
     private static final Set<String> REPLIES =
@@ -52,13 +56,13 @@ final class Session {
     }
 
     /**
-     * What the relay has shown.
+     * The slots that the relay has shown.
      *
      * @param of what the slots are of; its view is null if it cannot be resumed
      */
     record Held(Asking of, List<Shown> view, JsonNode slots, long rev, long epoch) {}
 
-    /** What is told of a session, with the lock held. */
+    /** A listener that is told of a session, with the lock held. */
     interface Hearer {
         /** Something else is held: by a patch, of one revision if it is {@code single}. */
         void held(Held before, Held now, Patch patch, boolean single);
@@ -82,7 +86,7 @@ final class Session {
     private Held held;
     private State state;
     private Asking wanted;
-    /** What the newest `watching` or `resumed` of this connection answers. */
+    /** The request that the newest `watching` or `resumed` of this connection answers. */
     private Asking taken;
     /** The next patch is of all that was missed. */
     private boolean isResumedByPatch;
@@ -94,6 +98,8 @@ final class Session {
     private JsonNode welcome;
     /** A connection was lost, and no other one is there. */
     private boolean isAway;
+    /** By any connection. Once it was, a 404 may be that of a proxy that is being set up anew. */
+    private boolean wasEntered;
     private long ids;
     private int failures;
     /** Connections in a row that were given up, since slots came. */
@@ -189,7 +195,7 @@ final class Session {
         @Override
         public void lost(RelayException.HandshakeFailed cause) {
             synchronized (lock) {
-                if (line == this) lose(cause);
+                if (line == this) lose(cause == null ? null : cause.at(address));
             }
         }
 
@@ -206,7 +212,11 @@ final class Session {
         connector.open(address, line);
     }
 
-    private void lose(RelayException cause) {
+    private void lose(RelayException.HandshakeFailed cause) {
+        if (cause != null && Objects.equals(cause.status, NO_ROOM) && !wasEntered) {
+            close(cause);
+            return;
+        }
         leave();
         if (isClosed()) return;
         long longest = options.longestWait.toMillis();
@@ -222,7 +232,9 @@ final class Session {
         }
     }
 
-    /** What was sent has no answer any more, and only edits wait for the next connection. */
+    /**
+     * Requests that were sent have no answer any more, and only edits wait for the next connection.
+     */
     private void leave() {
         if (timer != null) timer.cancel(false);
         isAway = isAway || welcome != null;
@@ -410,13 +422,14 @@ final class Session {
     }
 
     /**
-     * What begins the room goes first, then what asks for the slots, then the will that each
+     * Sends what begins the room first, then what asks for the slots, then the will that each
      * connection leaves again, then what waits.
      */
     private void enterRoom(JsonNode message) {
         count(message, "epoch");
         count(message, "rev");
         welcome = message;
+        wasEntered = true;
         failures = 0;
         isAway = false;
         if (left != null) unsent.addFirst(left);

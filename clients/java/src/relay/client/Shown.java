@@ -4,7 +4,8 @@ import com.fasterxml.jackson.databind.JsonNode;
 import java.util.List;
 
 /**
- * What a slot of a view shows: the value at a pointer, or how many elements or members that has.
+ * Names what a slot of a view shows: the value at a pointer, or how many elements or members that
+ * has.
  *
  * @param pointer a JSON Pointer into the document
  * @param isSize whether it is the size

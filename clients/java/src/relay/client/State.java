@@ -1,6 +1,6 @@
 package relay.client;
 
-/** How a board is connected. */
+/** The state of a board's connection. */
 public enum State {
     /** There is a connection or soon will be, and the slots are on their way. */
     CONNECTING,

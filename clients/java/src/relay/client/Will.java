@@ -5,12 +5,13 @@ import java.util.concurrent.CompletableFuture;
 import java.util.function.Consumer;
 
 /**
- * What the relay is to do when this session ends (docs/PROTOCOL.md, "Wills"). It goes with its
- * session, so each connection leaves it again, and waits for its answer over as many as it takes.
+ * A will: what the relay is to do when this session ends (docs/PROTOCOL.md, "Wills"). It goes with
+ * its session, so each connection leaves it again, and waits for its answer over as many as it
+ * takes.
  */
 final class Will extends Request {
     final CompletableFuture<Void> answer = new CompletableFuture<>();
-    /** Why the relay does not have it; null if it does. */
+    /** The cause if the relay does not have it; null if it does. */
     RelayException cause;
 
     private final Consumer<Will> ended;

@@ -13,7 +13,7 @@ import java.util.Optional;
 import java.util.concurrent.CompletableFuture;
 import java.util.concurrent.Flow;
 
-/** What a board does beside what the conformance suite plays to it. */
+/** Tests of what a board does beside what the conformance suite plays to it. */
 final class BoardTest {
     private static final String CARDS = "[[['a','b']]]";
     private static final String FOLLOWS = "{'kind':'patch','rev':%d,'patch':[%s]}";
@@ -51,6 +51,27 @@ final class BoardTest {
         equal(State.CLOSED, board.state());
         equal(true, relay.isLeft);
         fails(RelayException.Refused.class, () -> board.ready().join());
+    }
+
+    static void aMissingRoomEndsABoardThatWasNeverInIt() {
+        Played relay = new Played();
+        Board board = Board.connect("ws://h/b/rooms/a", relay.options(), "");
+        relay.refuse(404);
+        equal(State.CLOSED, board.state());
+        fails(RelayException.HandshakeFailed.class, () -> board.ready().join());
+        String advice = "a room is at /rooms/NAME, and this path is /b/rooms/a";
+        String words = board.ready().handle((slots, failure) -> failure.getMessage()).join();
+        equal("ws://h/b/rooms/a refuses the connection, with 404: " + advice, words);
+        Runnable toWatch = () -> Board.connect("ws://h/rooms/a/watch", relay.options(), "");
+        fails(IllegalArgumentException.class, toWatch);
+        // Once it was there, it comes back.
+        Board other = relay.begun(relay.options(), "/n", "[[0]]");
+        relay.cut();
+        relay.refuse(404);
+        relay.accept(7, 1);
+        relay.reply("'kind':'resumed','how':'nothing'");
+        equal(State.OPEN, other.state());
+        other.close();
     }
 
     static void whatIsUnguardedIsRefusedWhileAway() {
@@ -165,7 +186,8 @@ final class BoardTest {
                 "0 [Optional[[\"a\",\"b\"]]]",
                 "1 [Optional[[\"a\",\"b\",\"c\"]]]",
                 "0 [Optional[[\"a\",\"b\"]]]",
-                "missing at 0"), told);
+                "missing at 0: nothing stands there: look again, or add what is around it first"),
+                told);
         board.close();
     }
 

@@ -10,7 +10,7 @@ import java.util.ArrayList;
 import java.util.List;
 import java.util.Optional;
 
-/** What slots tell of patches that are laid over them, and of what takes them back. */
+/** Tests of what slots tell of patches that are laid over them, and of what takes them back. */
 final class KnownTest {
     private KnownTest() {}
 

@@ -55,6 +55,11 @@ final class Played implements Connector {
         hear("{'epoch':" + epoch + ",'kind':'welcome','rev':" + rev + ",'session':1}");
     }
 
+    /** Answers the client's next handshake with a status. */
+    void refuse(int status) {
+        next(opened).lost(new RelayException.HandshakeFailed(status, null));
+    }
+
     void cut() {
         receiver.lost(null);
     }
