@@ -15,7 +15,7 @@ EMPTY = {"todo": [], "doing": [], "done": [], "away": [], "here": {}}
 
 
 def show(change):
-    """What is typed shows at once, and is `saving` until the relay has shown it."""
+    """Shows what is typed at once, as `saving` until the relay has shown it."""
     word, shown = "saving:" if change.pending else "saved:", map(str, cards(change.slots))
     print(change.rev, word, ", ".join(shown), flush=True)
 

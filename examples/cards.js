@@ -1,6 +1,7 @@
 // The cards of board.html on the page. A card keeps its element while it is shown, wherever it
-// goes, so that it flies from where it was to where it is, and keeps the focus. It is known by its
-// value, mostly a text, and among equal ones by which of them it is.
+// goes, so that it flies from where it was to where it is, and keeps the focus. Once it is gone,
+// the card in its place has the focus. It is known by its value, mostly a text, and among equal
+// ones by which of them it is.
 "use strict";
 
 const FLIGHT = { duration: 160, easing: "cubic-bezier(.2, .7, .3, 1)" };
@@ -17,7 +18,7 @@ class Cards {
     this.#make = make;
   }
 
-  /** Where an element's card is: its list, its place there, and its value. */
+  /** The place of an element's card: its list, its place there, and its value. */
   seen(element) {
     const list = this.#lists.indexOf(element.parentElement);
     return { list, place: this.of(list).indexOf(element), value: this.#values.get(element) };
@@ -26,6 +27,12 @@ class Cards {
   /** The elements of the cards of a list. */
   of(list) {
     return [...this.#lists[list].children].filter((item) => this.#values.has(item));
+  }
+
+  /** The element of the card at a place of a list, or of the nearest one there. */
+  near(list, place) {
+    const there = this.of(list);
+    return there[Math.max(0, Math.min(place, there.length - 1))];
   }
 
   /** The element of a value; of equal ones, the last. */
@@ -46,9 +53,11 @@ class Cards {
     const counts = new Map();
     const wanted = lists.map((list) => list.map((value) => this.#element(value, counts, kept)));
     const focused = document.activeElement;
+    const place = this.#values.has(focused) && this.seen(focused);
     for (const gone of before.keys()) if (!wanted.flat().includes(gone)) gone.remove();
     this.#lists.forEach((list, k) => this.#fill(k, list, wanted[k]));
-    if (focused !== document.activeElement && focused.isConnected) focused.focus();
+    const next = place && !focused.isConnected ? this.#instead(place) : focused;
+    if (next !== document.activeElement && next.isConnected) next.focus();
     for (const [element, box] of before) fly(element, box);
   }
 
@@ -61,6 +70,11 @@ class Cards {
     this.#values.set(element, value);
     this.#shown.set(key, element);
     return element;
+  }
+
+  // What has the focus once a card is gone: of a list without cards, where one is added.
+  #instead({ list, place }) {
+    return this.near(list, place) ?? this.#lists[list].parentElement.querySelector("input");
   }
 
   // Only what is not in its place is moved, since an element that is moved loses the focus.

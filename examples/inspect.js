@@ -3,8 +3,6 @@
 
 const REVISIONS = 500; // that are kept
 const LINES = 300;
-// What a room with no document may begin with.
-const EXAMPLE = '[{ "op": "add", "path": "", "value": { "cards": ["milk"] } }]';
 
 const { url } = visit("board");
 const at = (id) => document.getElementById(id);
@@ -13,7 +11,6 @@ const seen = []; // revisions with their documents, oldest first
 let isLive = true;
 
 at("room").textContent = url;
-at("patch").value = EXAMPLE;
 
 const board = relay.connect(url, {
   view: [""],
@@ -36,7 +33,7 @@ function keep({ slots, rev, patch }) {
   draw(isLive);
 }
 
-/** Where an operation on the slot has changed the document. */
+/** The places at which an operation on the slot has changed the document. */
 function places({ op, path, from }) {
   const inner = (place) => place.replace(/^\/0(\/0)?/, "");
   const holder = inner(path).replace(/\/[^/]*$/, "");
@@ -92,14 +89,38 @@ function summary(message) {
 
 at("edit").onsubmit = (event) => {
   event.preventDefault();
-  const fail = (error) => (at("problem").textContent = error.message);
   at("problem").textContent = "";
   try {
-    board.edit(JSON.parse(at("patch").value)).catch(fail);
+    const patch = JSON.parse(at("patch").value);
+    const lost = lostBy(patch);
+    if (lost === null) edit(patch);
+    else ask(lost, patch);
   } catch (error) {
-    fail(error);
+    at("problem").textContent = error.message;
   }
 };
-at("patch").onkeydown = (event) => {
+
+function edit(patch) {
+  board.edit(patch).catch((error) => (at("problem").textContent = error.message));
+}
+
+/** The document that a patch replaces or removes as a whole, or null if none is lost. */
+function lostBy(patch) {
+  const isWhole = (each) => object(each).path === "" && object(each).op !== "test";
+  return list(patch).some(isWhole) ? (board.confirmed?.[0]?.[0] ?? null) : null;
+}
+
+function ask(lost, patch) {
+  const size = shownValue(lost).textContent;
+  at("lost").textContent = `This takes away the whole document (${size}), for everybody.`;
+  at("replace").onclick = () => {
+    at("sure").close();
+    edit(patch);
+  };
+  at("sure").showModal();
+}
+
+at("leave").onclick = () => at("sure").close();
+at("patch").addEventListener("keydown", (event) => {
   if (event.key === "Enter" && (event.ctrlKey || event.metaKey)) at("edit").requestSubmit();
-};
+});

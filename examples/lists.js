@@ -1,7 +1,8 @@
 // The board of board.html: three lists of cards in one document, each shown as a slot. What is done
 // to a card shows at once; it tests first that the card is still the one that was seen, and flies
-// back, with a word, where it is not. A card is put away into a fourth list, of which only the size
-// is watched.
+// back, with a word, where it is not. What is written is not lost then (texts.js). A card is put
+// away into a fourth list, of which only the size is watched: the client cannot take that back by
+// itself, so Undo has a step of the page's own.
 "use strict";
 
 const LISTS = [
@@ -12,27 +13,34 @@ const LISTS = [
 const AWAY = "/away";
 const PATHS = [...LISTS.map(({ path }) => path), AWAY];
 const HERE = "/here";
+const ELSEWHERE = "The card that was put away is not where it was left.";
 
 const { url, name } = visit("board");
+const unsaved = new Unsaved(`board ${url}`);
 const at = (selector) => document.querySelector(selector);
 
 const lists = LISTS.map(column);
 const cards = new Cards(lists, card);
 let written = null; // the element of the card in which somebody types
+let endWriting = () => {}; // and what ends that
+const putAways = []; // the cards that Undo brings back, the last one first
+let steps = Promise.resolve(); // the last Undo or Redo
 
 const board = relay.connect(url, {
   view: [...LISTS.map(({ path }) => path), { size: AWAY }, HERE],
   begin: { ...Object.fromEntries(PATHS.map((path) => [path.slice(1), []])), here: {} },
   onChange: draw,
   onState: tell,
-  onTakenBack: ({ patch, cause }) => takeBack(patch, cause),
 });
+board.ready.then(resumeTexts, (cause) => say(failure(cause)));
 const here = relay.presence(board, HERE, { name });
+beforeLeaving(() => endWriting());
 addEventListener("pagehide", () => here.leave());
 
 // What is shown.
 
 function draw({ slots, rev }) {
+  findPutAways();
   const all = LISTS.map((_, k) => list(slots[k][0]));
   // A board in which somebody types is drawn when that is done.
   if (written === null) cards.show(all);
@@ -46,15 +54,9 @@ function draw({ slots, rev }) {
 }
 
 function tell(state, cause = null) {
-  const words = {
-    open: board?.pending ? "saving" : "connected",
-    waiting: "connection lost, trying again",
-    connecting: "connecting",
-    closed: "closed",
-  };
-  at("#state").textContent = cause?.reason ? `${cause.message}; trying again` : words[state];
+  setText(at("#state"), connection(state, cause, board?.pending ? "saving" : "connected"));
   at("#state").dataset.state = state;
-  at("#undo").disabled = !board?.undoable;
+  at("#undo").disabled = !board?.undoable && putAways.length === 0;
   at("#redo").disabled = !board?.redoable;
 }
 
@@ -70,30 +72,21 @@ function person([id, { name }]) {
   return shown;
 }
 
-function takeBack([test], cause) {
+function takeBack(value, cause) {
   say(failure(cause));
-  const element = test?.op === "test" ? cards.find(test.value) : undefined;
+  const element = cards.find(value);
   element?.classList.add("refused");
   setTimeout(() => element?.classList.remove("refused"), 1200);
 }
 
 // What is done. `seen` is a card as it was when it was looked at: its list, its place and its
-// value, mostly a text. What is refused `takeBack` hears of.
+// value, mostly a text.
 
 function change({ list, place, value }, act) {
   const path = `${LISTS[list].path}/${place}`;
-  board.edit([{ op: "test", path, value }, act(path)], { optimistic: true });
-}
-
-function add(path, value) {
-  const there = board.at(path);
-  if (Array.isArray(there.value)) {
-    board.edit([{ op: "add", path: `${path}/-`, value }], { optimistic: true });
-  } else {
-    // Nothing is there yet, or something that is no list: a list takes its place, if nobody is
-    // faster.
-    there.update((seen) => [...list(seen), value]).catch((cause) => say(failure(cause)));
-  }
+  const done = board.edit([{ op: "test", path, value }, act(path)], { optimistic: true });
+  done.catch((cause) => takeBack(value, cause));
+  return done;
 }
 
 function move(seen, list, place) {
@@ -102,11 +95,45 @@ function move(seen, list, place) {
 }
 
 function putAway(seen) {
-  change(seen, (from) => ({ op: "move", from, path: `${AWAY}/-` }));
+  const put = { ...seen };
+  const found = (rev) => {
+    put.rev = rev;
+    findPutAways();
+  };
+  const failed = () => putAways.splice(putAways.indexOf(put), 1);
+  putAways.push(put);
+  change(seen, (from) => ({ op: "move", from, path: `${AWAY}/-` }))
+    .then(found, failed)
+    .then(() => tell(board.state));
+}
+
+/** Notes where cards were put, and how many edits can be undone that were done before. */
+function findPutAways() {
+  for (const put of putAways) {
+    if (put.index !== undefined || !(put.rev <= board.rev)) continue;
+    Object.assign(put, { index: board.confirmed[LISTS.length][0] - 1, below: board.undoable });
+  }
+}
+
+async function bringBack({ list: k, place, value, index }) {
+  const from = `${AWAY}/${index}`;
+  const path = `${LISTS[k].path}/${Math.min(place, list(board.slots[k][0]).length)}`;
+  const patch = [{ op: "test", path: from, value }, { op: "move", from, path }];
+  await board.edit(patch, { undo: false }).catch((cause) => {
+    say(cause.at === 0 ? ELSEWHERE : failure(cause));
+  });
 }
 
 function step(which) {
-  board[which]().catch((cause) => say(failure(cause))).then(() => tell(board.state));
+  const next = async () => {
+    if (board.pending > 0) await board.sync();
+    const isOfCard = which === "undo" && putAways.at(-1)?.below >= board.undoable;
+    await (isOfCard ? bringBack(putAways.pop()) : board[which]());
+  };
+  steps = steps
+    .then(next)
+    .catch((cause) => say(failure(cause)))
+    .then(() => tell(board.state));
 }
 
 // Elements.
@@ -114,12 +141,20 @@ function step(which) {
 function column({ name, path }) {
   const section = at("#column").content.cloneNode(true).querySelector("section");
   const input = section.querySelector("input");
+  let draft = unsaved.left(path) ?? { place: path, text: "" };
+  input.value = draft.text;
   section.querySelector(".name").textContent = name;
   input.setAttribute("aria-label", `Add a card to ${name}`);
+  input.oninput = () => {
+    draft.text = input.value;
+    unsaved.keep(draft);
+  };
   section.querySelector("form").onsubmit = (event) => {
     event.preventDefault();
     const value = input.value.trim();
-    if (value !== "") add(path, value);
+    if (value !== "") addText(unsaved.keep({ place: "added", path, text: value }));
+    unsaved.drop(draft);
+    draft = { place: path, text: "" };
     input.value = "";
   };
   at("main").append(section);
@@ -134,32 +169,39 @@ function card(value) {
   element.querySelector(".back").onclick = () => move(seen(), seen().list - 1, "-");
   element.querySelector(".on").onclick = () => move(seen(), seen().list + 1, "-");
   element.querySelector(".off").onclick = () => putAway(seen());
-  element.onkeydown = (event) => event.target === element && key(event, element);
+  // No `on..` property: what such a handler returns may keep a key from the input in the card.
+  element.addEventListener("keydown", (event) => {
+    if (event.target === element) key(event, element);
+  });
   draggable(element, lists, (dropped, list, place) => move(seen(), list, place));
   return element;
 }
 
-// A card's text becomes an input until Enter, Escape or a click elsewhere.
+// A card's text becomes an input until Enter, Escape, a click elsewhere or the end of the page.
 function write(element) {
-  const seen = cards.seen(element);
+  const draft = draftOf(cards.seen(element));
   const input = document.createElement("input");
   const shown = element.querySelector(".text");
-  Object.assign(input, { value: text(seen.value), maxLength: 200 });
+  Object.assign(input, { value: draft.text, maxLength: 200 });
   input.setAttribute("aria-label", "the card's text");
-  input.onkeydown = ({ key }) => {
-    if (key === "Escape") input.value = text(seen.value);
-    if (key === "Enter" || key === "Escape") input.blur();
+  input.oninput = () => {
+    draft.text = input.value.trim();
+    unsaved.keep(draft);
   };
+  input.addEventListener("keydown", ({ key }) => {
+    if (key === "Escape") draft.text = text(draft.card.value);
+    if (key === "Enter" || key === "Escape") endWriting(element);
+  });
   input.onblur = () => {
     // Another window came to the front, and somebody still types here.
-    if (document.activeElement === input) return;
-    const value = input.value.trim();
+    if (document.activeElement !== input) endWriting();
+  };
+  endWriting = (next = null) => {
     written = null;
-    input.onblur = null;
+    endWriting = () => {};
     input.replaceWith(shown);
-    if (value !== "" && value !== text(seen.value)) {
-      change(seen, (path) => ({ op: "replace", path, value }));
-    }
+    next?.focus();
+    saveText(draft);
     cards.show(LISTS.map((_, k) => list(board.slots[k][0])));
   };
   written = element;
@@ -187,8 +229,7 @@ function carry(seen, list, place) {
 }
 
 function choose(list, place) {
-  const there = cards.of(list);
-  there[Math.max(0, Math.min(place, there.length - 1))]?.focus();
+  cards.near(list, place)?.focus();
 }
 
 at("#undo").onclick = () => step("undo");
@@ -204,3 +245,29 @@ addEventListener("keydown", (event) => {
   event.preventDefault();
   step(event.shiftKey ? "redo" : "undo");
 });
+
+offerAfterRestart(board, {
+  words: (count) => (count === 1 ? "a card is gone" : `${count} cards are gone`),
+  gone: (before, now) => missing(before, now),
+  putBack: (before) => board.change((document) => putBack(document, before)),
+});
+
+/** Cards of slots of before that no list has now, each with the name of its list. */
+function missing(before, now) {
+  const there = LISTS.flatMap((_, k) => list(now[k][0])).map((value) => JSON.stringify(value));
+  const isGone = (value) => {
+    const at = there.indexOf(JSON.stringify(value));
+    if (at >= 0) there.splice(at, 1);
+    return at < 0;
+  };
+  return LISTS.flatMap(({ path }, k) =>
+    list(before[k][0]).filter(isGone).map((value) => ({ name: path.slice(1), value })),
+  );
+}
+
+function putBack(document, before) {
+  const now = LISTS.map(({ path }) => [document[path.slice(1)]]);
+  for (const { name, value } of missing(before, now)) {
+    document[name] = [...list(document[name]), value];
+  }
+}

@@ -75,16 +75,14 @@ async def a_card_is_edited_in_place(place):
 
 
 @shows
-async def an_edit_of_a_card_that_went_elsewhere_is_refused_in_words(place):
+async def a_text_finds_the_card_that_somebody_moved_meanwhile(place):
     wide, narrow = place.wide, place.narrow
     await narrow.click(card(2, 2, ".text"))
     await narrow.type("Paint the window")
     await wide.click(card(2, 2, ".on"))
     await wide.until(LISTS, [[POSTERS], ["Buy oat milk"], ["Paint the door"]])
-    await asyncio.sleep(0.45)
     await narrow.key("Enter")
-    await narrow.until(WORD, GONE)
-    await both_show(place, [POSTERS], ["Buy oat milk"], ["Paint the door"])
+    await both_show(place, [POSTERS], ["Buy oat milk"], ["Paint the window"])
 
 
 @shows
@@ -94,9 +92,9 @@ async def a_move_that_somebody_else_was_faster_with_flies_back_with_a_word(place
     x, y = await narrow.carry(card(3, 1))
     await wide.press(card(1, 1, ".on"))
     await narrow.mouse("mouseReleased", x, y)
-    await in_next_frame(narrow, [], ["Buy oat milk"], [POSTERS, "Paint the door"])
+    await in_next_frame(narrow, [], ["Buy oat milk"], [POSTERS, "Paint the window"])
     await narrow.until(WORD, GONE)
-    await both_show(place, [], ["Buy oat milk", POSTERS], ["Paint the door"])
+    await both_show(place, [], ["Buy oat milk", POSTERS], ["Paint the window"])
 
 
 @shows

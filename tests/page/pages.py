@@ -12,45 +12,27 @@ from support.relay import Relay
 from support.room import Room
 from tutorial import tutorial_in
 from whiteboard import SEEN
-from window import Window, element, text_of
+from window import SEATS, Window, element, text_of
+from written import fill
 
 VALUE = f"{element('input')}.value"
 NOTE = text_of(".note")
 OPEN = "document.readyState === 'complete' && board.state"
-SEATS = "document.querySelectorAll('#tables button')"
 WORD_SHOWN = text_of("#word")
 CONFIRMED = "JSON.stringify(board.confirmed[0])"
 HALL = '[{"by":"Ann","text":"The hall"}]'
 
 
-def write(text, focus=True):
-    """Puts a text into the first field and leaves it; None only goes there."""
-    lines = ["input.focus();"] if focus else []
-    if text is not None:
-        lines.append(f"input.value = '{text}'; input.blur();")
-    return f"(() => {{ const input = {element('input')}; {' '.join(lines)} }})()"
-
-
 @shows
-async def a_field_that_two_people_write_shows_both_texts_and_one_chooses(place):
+async def a_field_that_somebody_writes_is_shown_with_their_name(place):
     ann, bob = await place.two("form", late=True)
     for window in (ann, bob):
         await window.until(text_of("#state"), "saved as you go")
     # Who writes again before the relay has heard of the first text meets no conflict.
     for text in ("The garden", "The yard"):
-        await ann.evaluate(write(text))
+        await fill(ann, text)
     await bob.until(VALUE, "The yard")
     await bob.until(NOTE, "by Ann")
-    await bob.evaluate(write(None))
-    await ann.evaluate(write("The hall"))
-    await ann.until("board.pending", 0)
-    await bob.until("board.confirmed[0][0].text", "The hall")
-    await bob.evaluate(write("The roof", focus=False))
-    await bob.until(NOTE, "Meanwhile Ann wrote “The hall”. Keep yours or take theirs")
-    await place.picture(bob, "form")
-    await bob.press(".note button")
-    await ann.until(VALUE, "The roof")
-    await ann.until(NOTE, "by Bob")
     await ann.leave()
     await bob.leave()
 
@@ -168,7 +150,7 @@ async def a_card_a_text_or_a_shape_takes_the_place_of_something_else(place):
     await page.leave()
     form = await place.window("form", "mend-form")
     await form.until(f"{element('input')}.disabled", False)
-    await form.evaluate(write("The hall"))
+    await fill(form, "The hall")
     await form.until(CONFIRMED, HALL)
     await form.leave()
     await Room(place.relay, "mend-whiteboard").set({"shapes": 5})
@@ -193,7 +175,7 @@ async def a_refused_edit_is_told(place):
     await Room(place.relay, "flat").set(5)
     form = await place.window("form", "flat")
     await form.until(f"{element('input')}.disabled", False)
-    await form.evaluate(write("The hall"))
+    await fill(form, "The hall")
     await form.until(NOTE, "Not done: the document has no place for that.")
     await form.leave()
 
@@ -214,7 +196,7 @@ async def what_is_typed_while_the_relay_restarts_is_not_lost(place):
                 await page.until("board.state !== 'open'", True)
         await shared.submit("milk")
         await board.submit("bread", "form input")
-        await form.evaluate(write("The hall"))
+        await fill(form, "The hall")
         with Relay(port=port, epoch=2):
             await shared.until("JSON.stringify(board.confirmed)", '[[["milk"]]]')
             now = f"JSON.stringify([{LISTS}, board.pending, {PEOPLE}])"

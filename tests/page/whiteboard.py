@@ -111,7 +111,7 @@ async def a_shape_is_dragged_by_a_finger(place):
 async def a_note_is_written_on(place):
     await place.ann.evaluate(f"{element(LAST)}.focus()")
     await place.ann.key("Enter")
-    await place.ann.say("Input.insertText", text="Bring the ladder")
+    await place.ann.keys("Bring the ladder")
     await place.ann.key("Escape")
     for window in (place.ann, place.bob):
         await window.until(TEXTS, ["", "Bring the ladder"])
