@@ -1,10 +1,9 @@
-"""What is stale of the proved program, and in which order it is proved and built.
+"""Tells what is stale of the proved program, and in which order it is proved and built.
 
 crates/relay/out/proved has of each crate its library, NAME.rlib, what was said of it, NAME.log, and
-when it was read, NAME.done. costs.json beside it has what each proof took the last time.
+the checksum of its sources, NAME.done. costs.json beside it has what each proof took the last time.
 """
 
-import functools
 import json
 import math
 import os
@@ -15,27 +14,15 @@ import sys
 import time
 
 from jobs import ROOT, kit, running, say, start
+from sources import CRATES, OUT, WHOLE, Sources, below
 
-OUT = ROOT / "crates/relay/out"
 PROGRAM, PROVED, COSTS = OUT / "relay", OUT / "proved", OUT / "costs.json"
-LISTED = re.findall(r"^(\w+):(.*)", (ROOT / "crates.txt").read_text(), re.M)
-CRATES = {name: libraries.split() for name, libraries in LISTED}  # lowest first
 DONE = {name: PROVED / f"{name}.done" for name in CRATES}
 
 
-@functools.lru_cache(maxsize=None)
-def below(name):
-    """The crates of this repository that a crate stands on."""
-    named = [low for low in CRATES[name] if low in CRATES]
-    return set(named).union(*map(below, named))
-
-
-def is_stale(mark, names, kinds=("src", "specs", "proofs")):
-    """A source of these crates is newer than the mark, or there is no mark."""
-    places = [ROOT / "crates" / name / kind for name in names for kind in kinds]
-    files = (it for place in places for it in (place, *place.rglob("*")) if it.exists())
-    age = mark.stat().st_mtime_ns if mark.exists() else 0
-    return any(it.stat().st_mtime_ns > age for it in (ROOT / "crates.txt", *files))
+def is_of(mark, total):
+    """The mark has this checksum."""
+    return mark.exists() and mark.read_text() == total
 
 
 def costs():
@@ -58,8 +45,8 @@ def record(name, seconds):
 
 
 def words_of(name):
-    """What rattle is told of a crate: its name and root, and where the libraries that it names
-    are."""
+    """Returns what rattle is told of a crate: its name and root, and where the libraries that it
+    names are."""
     root = "src/main.rt" if name == "relay" else "src/lib.rt"
     words = ["--crate-name", name, "--links", f"{name}=", root]
     for low in ["std", *CRATES[name]]:
@@ -82,10 +69,11 @@ class Build:
     first for which the others wait the longest."""
 
     def __init__(self, names):
+        self.sources = Sources(WHOLE)
         for name in CRATES:  # also those that do not wait now, and what stands on them
             is_ready = all(DONE[low].exists() for low in below(name))
-            if DONE[name].exists() and not (is_ready and not is_stale(DONE[name], [name])):
-                DONE[name].unlink()
+            if not (is_ready and is_of(DONE[name], self.sources.sums[name])):
+                DONE[name].unlink(missing_ok=True)
         self.cost, self.spent, self.begun = costs(), 0, time.monotonic()
         self.chain = {}  # the seconds from a crate's begin to the end, if nothing waits for a CPU
         for name in reversed([it for it in CRATES if it in names and not DONE[it].exists()]):
@@ -105,7 +93,9 @@ class Build:
                 mark.unlink()
 
     def start_ready(self):
-        """The k-th of those that run, in order, gets a k-th of the CPUs."""
+        """The k-th of those that run, in order, gets a k-th of the CPUs, so the first one, which
+        is often alone in the end, gets all. Copies of rattle that check a crate side by side take
+        3 to 8 % more CPU time than one."""
         runs = 0
         for name in self.left:
             is_ready = all(DONE[low].exists() for low in below(name))
@@ -123,15 +113,15 @@ class Build:
         say(f"proving {name}, and then {waits} more: some {minutes} minutes")
 
     def prove(self, name, cpus):
-        """A library is built of statements alone, so what stands on it has less to load. The
-        program has few functions, and each CPU would load anew all that they stand on."""
-        made = ["--jobs", cpus, "--statements", "-o", PROVED / f"{name}.rlib"]
+        """A library is built of statements alone, so what stands on it has less to load."""
+        made = ["--statements", "-o", PROVED / f"{name}.rlib"]
         if name == "relay":
-            made = ["--jobs", 1, "--toolchain", kit() / "toolchain", "-o", f"{PROGRAM}.o"]
+            made = ["--toolchain", kit() / "toolchain", "-o", f"{PROGRAM}.o"]
         is_urgent = self.chain[name] > 0.6 * self.chain[self.left[0]]
         words = ["nice", "-n", 0 if is_urgent else 10, kit() / "bin/rattle", "build"]
         DONE[name].with_suffix(".begun").touch()
-        start(name, [*words, *words_of(name), *made], PROVED / f"{name}.log")
+        words += [*words_of(name), "--jobs", cpus, *made]
+        start(name, words, PROVED / f"{name}.log")
 
     def take_ended(self):
         process, status, used = os.wait4(-1, 0)
@@ -139,7 +129,9 @@ class Build:
         running.pop(name).returncode = status
         if status or name == "relay" and link():
             sys.exit((PROVED / f"{name}.log").read_text() + f"relay: {name} is not proved")
-        DONE[name].with_suffix(".begun").rename(DONE[name])
+        DONE[name].with_suffix(".begun").unlink()
+        is_known = not self.sources.has_changed(name)
+        DONE[name].write_text(self.sources.sums[name] if is_known else "changed meanwhile")
         self.left.remove(name)
         self.spent += self.cost[name]
         record(name, used.ru_utime + used.ru_stime)

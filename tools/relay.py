@@ -8,11 +8,22 @@ import signal
 import sys
 import time
 
-from build import CRATES, DONE, OUT, PROGRAM, PROVED, Build, below, is_stale, words_of
+from build import DONE, PROGRAM, PROVED, Build, is_of, words_of
 from jobs import ROOT, alone_in, kit, run, say, start
+from sources import CODE, CRATES, OUT, WHOLE, Sources, below
 
-# A program without proofs, what was said of it, and when its sources were read.
+# A program without proofs, what was said of it, and the checksum of its sources.
 TRIED = OUT / "tried"
+# What the program prints of itself, for whoever asks before it is built. tests/help compares it.
+HELP = ROOT / "tools/help"
+JOBS = ("script", "loop", "follow", "serve")
+LAUNCHER = """\
+./relay builds the program before it runs a job, if a source changed:
+  ./relay JOB..           proves all first: 25 minutes or more from nothing
+  ./relay --try JOB..     only compiles, in two minutes; checks as it runs, 100 times slower
+  ./relay --build         proves and builds, and runs nothing
+  ./relay --check CRATE   proves one crate
+"""
 
 
 def proving():
@@ -20,20 +31,41 @@ def proving():
 
 
 def run_proved(words):
-    """The program is as old as the sources were when this began: what changes meanwhile is proved
-    the next time."""
-    mark = PROVED / "begun"
-    if is_out_of_date():
-        with proving():
-            if is_out_of_date():
-                mark.touch()
-                Build({"relay", *below("relay")}).run()
-                mark.replace(DONE["relay"])
+    build_proved()
     run(PROGRAM, words)
 
 
+def build_proved():
+    """The program is as old as the sources were when this began: what changes meanwhile is proved
+    the next time."""
+    if is_out_of_date():
+        with proving():
+            if is_out_of_date():
+                Build({"relay", *below("relay")}).run()
+
+
 def is_out_of_date():
-    return not PROGRAM.exists() or is_stale(DONE["relay"], CRATES)
+    if not (PROGRAM.exists() and DONE["relay"].exists()):
+        return True
+    sums = Sources(WHOLE).sums
+    return not all(is_of(DONE[name], sums[name]) for name in ("relay", *below("relay")))
+
+
+def asked_of_itself(words):
+    """The file that answers these words without the program, or None."""
+    if words in (["--version"], ["-V"]):
+        return HELP / "version.txt"
+    if words in (["--help"], ["-h"], ["help"]):
+        return HELP / "relay.txt"
+    first, second = words if len(words) == 2 else ("", "")
+    job = first if second in ("--help", "-h") else second if first == "help" else ""
+    return HELP / f"{job}.txt" if job in JOBS else None
+
+
+def print_from(file):
+    print(file.read_text(), end="", flush=True)
+    if file.stem == "relay":
+        print(f"\n{LAUNCHER}", end="", file=sys.stderr, flush=True)
 
 
 def check(words):
@@ -49,14 +81,16 @@ def check(words):
 
 
 def run_tried(words):
-    program, mark, seconds = TRIED / "relay", TRIED / "begun", TRIED / "seconds"
+    program, done, seconds = TRIED / "relay", TRIED / "done", TRIED / "seconds"
     with alone_in(TRIED, OUT, " --try that compiles"):
-        if not program.exists() or is_stale(TRIED / "done", CRATES, ["src"]):
+        if not (program.exists() and is_of(done, Sources(CODE).sums["relay"])):
             usual = seconds.read_text().strip() if seconds.exists() else "120"
             say(f"compiling the sources as they stand: some {usual} seconds")
-            mark.touch()
+            done.unlink(missing_ok=True)
+            sources = Sources(CODE)
             seconds.write_text(compile_to(program, usual))
-            mark.replace(TRIED / "done")
+            if not any(map(sources.has_changed, ["relay", *below("relay")])):
+                done.write_text(sources.sums["relay"])
     say("nothing of this program is proved")
     run(program, words)
 
@@ -78,7 +112,8 @@ def compile_to(program, usual):
         if job.poll() is not None:
             sys.exit((TRIED / "log").read_text() + "relay: the sources were not compiled")
         if seconds >= due:
-            say(f"compiling: {seconds} of some {usual} seconds")
+            late = "; the machine may be busy" if seconds > int(usual) else ""
+            say(f"compiling: {seconds} of some {usual} seconds{late}")
             due += 10
         time.sleep(0.2)
     shutil.copy(folder / "program", program)
@@ -97,14 +132,21 @@ def main(words):
     for end in (signal.SIGTERM, signal.SIGHUP):
         if signal.getsignal(end) != signal.SIG_IGN:
             signal.signal(end, signal.default_int_handler)
-    first, *more = words or [""]
+    first, *more = words or ["script"]
     try:
-        if first == "--try":
+        if file := asked_of_itself(more if first == "--try" else words):
+            print_from(file)
+        elif first == "--try":
             run_tried(more)
         elif first == "--check":
             check(more)
-        else:
+        elif words == ["--build"]:
+            build_proved()
+        elif first in JOBS:
             run_proved(words)
+        else:
+            print(f"relay: no job or option {first}; ./relay --help names them", file=sys.stderr)
+            sys.exit(2)
     except KeyboardInterrupt:
         sys.exit(130)
 
