@@ -1,5 +1,5 @@
-"""What each request is answered by: its name, its bytes, and the status, with the methods that a
-405 allows."""
+"""The answer to each request: its name, its bytes, and the status, with the methods that a 405
+allows."""
 
 from support.asking import head
 

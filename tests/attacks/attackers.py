@@ -78,7 +78,8 @@ class Attackers:
 
 
 class Flow:
-    """What one client sends, and what it is sent meanwhile. Nothing is left once it has ended."""
+    """The traffic of one client: what it sends, and what it is sent meanwhile. Nothing is left once
+    it has ended."""
 
     def __init__(self, stream, part, count):
         self.stream, self.part, self.left = stream, part, count

@@ -44,7 +44,7 @@ class Beside:
         self.process.communicate()
 
     def end(self):
-        """What it saw."""
+        """Returns what it saw."""
         said, _ = self.process.communicate(timeout=PATIENCE)
         return json.loads(said)
 
@@ -109,7 +109,7 @@ class Good:
 
 
 def is_over(seconds):
-    """Whether standard input ends within that time."""
+    """True if standard input ends within that time."""
     return bool(select.select([sys.stdin], [], [], seconds)[0])
 
 

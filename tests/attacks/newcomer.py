@@ -13,7 +13,7 @@ REPLIES = [
 
 
 def fault_of(port, room, seconds):
-    """Why it is not served within that time, or None."""
+    """Tells why it is not served within that time, or None."""
     try:
         with wire.Client(port, room, Deadline(seconds)) as client:
             replies = replies_to(client)
