@@ -26,7 +26,7 @@ const lines = createInterface({ input: relay.stdout });
 const { value: listening } = await lines[Symbol.asyncIterator]().next();
 const port = listening.split(" ")[1];
 
-/** What tests/types/given.d.ts declares. */
+/** Gives what tests/types/given.d.ts declares. */
 async function given(number) {
   const url = `ws://127.0.0.1:${port}/rooms/s${number}`;
   const shown = [];

@@ -96,7 +96,7 @@ TYPED = [
     ("undo", ["4 saving: ", "5 saved: "]),
     ("undo", ["nothing to undo"]),
 ]
-"""What is typed into examples/board.py, and what it prints then."""
+"""The lines that are typed into examples/board.py, and what it prints then."""
 
 
 async def use_board(relay):

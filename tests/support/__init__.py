@@ -1,1 +1,1 @@
-"""What the tests and the benches share: tests/README.md says which module has what."""
+"""The modules that the tests and the benches share: tests/README.md says which module has what."""

@@ -1,4 +1,4 @@
-"""How long something may take. Who waits has a deadline, or a condition that has to hold in
+"""The time that something may take. Who waits has a deadline, or a condition that has to hold in
 time."""
 
 import asyncio

@@ -61,7 +61,7 @@ class Cluster:
         return f"postgresql://postgres@/{name}?host={self.folder}"
 
     def sql(self, statement, address=None):
-        """What psql prints of it."""
+        """Returns what psql prints of it."""
         words = [programs() / "psql", "-X", "-q", "-A", "-t", "-c", statement]
         words.append(address or self.address())
         told = subprocess.run(words, check=True, stdout=subprocess.PIPE, text=True)

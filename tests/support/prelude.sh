@@ -20,7 +20,7 @@ export PYTHONDONTWRITEBYTECODE=1 PIP_ROOT_USER_ACTION=ignore PYTHONPATH=$root/te
 # Exports RELAY, the program to test: what it names already, or what ./relay builds.
 find_relay() {
   if [ -z "${RELAY:-}" ]; then
-    "$root/relay" --version >/dev/null
+    "$root/relay" --build
     RELAY=$root/crates/relay/out/relay
   fi
   RELAY=$(realpath "$RELAY")

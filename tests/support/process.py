@@ -1,4 +1,4 @@
-"""What Linux tells of a process, and the limits that it lets one have."""
+"""Facts that Linux tells of a process, and the limits that it lets one have."""
 
 import os
 import pathlib

@@ -21,12 +21,13 @@ def program():
     """The one that RELAY names, or that ./relay builds."""
     if os.environ.get("RELAY"):
         return os.path.realpath(os.environ["RELAY"])
-    subprocess.run([ROOT / "relay", "--version"], stdout=subprocess.DEVNULL, check=True)
+    subprocess.run([ROOT / "relay", "--build"], check=True)
     return str(ROOT / "crates/relay/out/relay")
 
 
 def run(*words, given="", **how):
-    """What the program comes to with these words and this input: status, output and errors."""
+    """Returns what the program comes to with these words and this input: status, output and
+    errors."""
     how = {"capture_output": True, "text": True, "timeout": PATIENCE, **how}
     return subprocess.run([program(), *map(str, words)], input=given, **how)
 

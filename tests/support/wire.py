@@ -55,7 +55,7 @@ def listens(port, address="127.0.0.1"):
 
 
 def all_of(stream):
-    """What comes until the other side closes."""
+    """Reads what comes until the other side closes."""
     return b"".join(iter(lambda: stream.recv(1 << 16), b""))
 
 
