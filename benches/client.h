@@ -1,5 +1,5 @@
-// What the loads in C share: connections to the relay, and frames (RFC 6455) as a client sends
-// them, masked by zeros.
+// The code that the loads in C share: connections to the relay, and frames (RFC 6455) as a client
+// sends them, masked by zeros.
 #pragma once
 
 #include <arpa/inet.h>

@@ -1,6 +1,6 @@
 #!/usr/bin/env python3
-"""What the hub counts for a text, beside what the server's CPU took: credits are charged with these
-counts, which are to be microseconds within a factor of about two.
+"""Measures what the hub counts for a text, beside what the server's CPU took: credits are charged
+with these counts, which are to be microseconds within a factor of about two.
 
     python3 benches/costs.py [--texts N] [--rounds N]           (40 of each kind, three rounds)
 
@@ -121,7 +121,7 @@ def answer_to(kind, texts):
 
 
 def measure(kind, count):
-    """What a text of the kind costs, by the hub and by the CPU, in microseconds."""
+    """The cost of a text of the kind, by the hub and by the CPU, in microseconds."""
     value, pointers, texts = KINDS[kind]
     admin = free_port()
     with Relay("--admin", admin, stderr=subprocess.DEVNULL) as serve:

@@ -1,5 +1,5 @@
 #!/usr/bin/env python3
-"""What an edit costs the server's CPU, by the size of the document.
+"""Measures what an edit costs the server's CPU, by the size of the document.
 
     python3 benches/edits.py [--edits N] [--rounds N] [--instructions] [KIB..]
                                   (2,000 of each kind, one round, on 1, 8, 64 and 256 KiB)

@@ -35,8 +35,8 @@ typedef struct {
     uint64_t asked; // replies that came or are to come
 } Link;
 
-// What is kept busy: so many rooms, each with editors and watchers; each editor keeps some edits on
-// the way.
+// The rooms that are kept busy: so many, each with editors and watchers; each editor keeps some
+// edits on the way.
 typedef struct {
     int rooms, editors, watchers, on_the_way;
 } Busy;
@@ -133,7 +133,8 @@ static Link watching(const char *room, const char *view) {
     return link;
 }
 
-// What one thread serves: links that edit if some edits are to be on the way, and only read else.
+// The links that one thread serves: links that edit if some edits are to be on the way, and only
+// read else.
 typedef struct {
     Link *links;
     int count, on_the_way;

@@ -1,5 +1,5 @@
 #!/usr/bin/env python3
-"""What it costs that many sessions of one room watch, and then leave all at once.
+"""Measures what it costs that many sessions of one room watch, and then leave all at once.
 
     python3 benches/one_room.py [SESSIONS..]           (256, 1,000 and 4,000, if none is named)
 
@@ -69,7 +69,8 @@ def left(clients):
 
 
 def settled(pid):
-    """What the process spent, once it does next to nothing but answer the client beside."""
+    """The microseconds that the process spent, once it does next to nothing but answer the client
+    beside."""
     spent = Microseconds().spent(pid)
     while True:
         time.sleep(0.5)

@@ -97,7 +97,7 @@ class Client:
                 self.changed.clear()
 
     def next_edit(self):
-        """What it has to say yet, by what it sees."""
+        """Returns what it has to say yet, by what it sees."""
         (slot,) = self.board.slots
         if not slot:
             return BEGIN

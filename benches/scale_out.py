@@ -153,7 +153,8 @@ class Play:
         await asyncio.gather(*coming)
 
     async def newcomer(self, room, context):
-        """What a client that enters now is shown: the relay's own word for what the others hold."""
+        """Checks what a client that enters now is shown: the relay's own word for what the others
+        hold."""
         link = {"ssl": context, "local_addr": (scale_clients.address(room), 0)}
         more = {"view": ["/of"], "patience": LONGEST, "link": link}
         async with relay_client.connect(self.nginx.url(f"room{room}"), **more) as board:
@@ -162,7 +163,8 @@ class Play:
         assert slots == wanted, f"room {room} holds {slots}"
 
     def tell(self):
-        """What each relay had, and that the two that went on lost no connection."""
+        """Prints what each relay had, and checks that the two that went on lost no
+        connection."""
         told = zip(*self.every("tell", self.epochs()))
         held = [sum(map(int, counts)) for counts in told]
         for k, relay in enumerate(self.relays):
@@ -180,7 +182,7 @@ class Play:
 
 
 def tell(what, pids):
-    """What these processes take together."""
+    """Prints what these processes take together."""
     taken, used = sum(map(memory, pids)) / MIB, sum(map(cpu_seconds, pids))
     print(f"{what}: {taken:.0f} MiB, {used:.1f} s of a CPU")
 

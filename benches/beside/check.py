@@ -1,6 +1,6 @@
 #!/usr/bin/env python3
-"""Whether a server says what the relay says, as far as the loads go: benches/beside/check.py PORT,
-with the relay in RELAY.
+"""Checks that a server says what the relay says, as far as the loads go: benches/beside/check.py
+PORT, with the relay in RELAY.
 
 Prints an exchange: first of the load's own edits, message by message; then which of some edits, of
 all six operations, are done, and what watchers of several views hold in the end. What they hold is
@@ -107,7 +107,7 @@ EDITS = (
 
 
 def held(messages):
-    """What the relay's follower holds of these messages."""
+    """Returns what the relay's follower holds of these messages."""
     texts = "".join(canonical(message) + "\n" for message in messages)
     lines = run("follow", given=texts, check=True).stdout.splitlines()
     if any(line.startswith("off") for line in lines):
@@ -117,7 +117,7 @@ def held(messages):
 
 
 def views(port):
-    """Which edits are done, and what watchers hold then. Each watches `/end` too, which the last
+    """The edits that are done, and what watchers hold then. Each watches `/end` too, which the last
     edit makes."""
     editor = Client(port, "views")
     watchers = [Client(port, "views") for _ in VIEWS]

@@ -62,7 +62,7 @@ def compare(batch, counts):
 
 
 def shown(translation):
-    """What has to be alike: of an inverse one client may know more than another."""
+    """The part that has to be alike: of an inverse one client may know more than another."""
     return {**translation, "undone": None} if isinstance(translation, dict) else translation
 
 

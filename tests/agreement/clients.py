@@ -1,4 +1,4 @@
-"""What the clients make of the cases.
+"""Gives what the clients make of the cases.
 
 The clients in Python and JavaScript translate a patch to the slots of a view: `refused`, or
 `slots`, in which a slot is None if they do not know what it shows; `touches`, whether it surely

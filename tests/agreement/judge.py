@@ -1,4 +1,4 @@
-"""What has to hold of what a client makes of a patch."""
+"""Checks what has to hold of what a client makes of a patch."""
 import json
 
 REFUSED = "refused"
@@ -9,8 +9,8 @@ class Wrong(Exception):
 
 
 def judge(case, translation):
-    """What each slot came to: `exact`, `untouched` or `left`. `Wrong` if it shows what is not so,
-    or less than the client knows."""
+    """Returns what each slot came to: `exact`, `untouched` or `left`. `Wrong` if it shows what is
+    not so, or less than the client knows."""
     if translation == REFUSED:
         if case.accepted:
             raise Wrong("it was accepted")
@@ -33,7 +33,7 @@ def judge_touch(case, touches):
 
 
 def judge_undone(case, undone):
-    """What the inverse makes of the slots that the patch led to, if there is one."""
+    """Judges what the inverse makes of the slots that the patch led to, if there is one."""
     if undone == REFUSED:
         raise Wrong("its inverse does not fit what it led to")
     for shown, before in zip(undone or [], case.before):
@@ -63,7 +63,7 @@ def text(value):
 
 
 def tells_all(case):
-    """Whether the slots tell that a patch is refused: they show the document, or the value within
+    """True if the slots tell that a patch is refused: they show the document, or the value within
     which its one operation is."""
     if "" in case.view:
         return True
@@ -79,7 +79,7 @@ def tells_all(case):
 
 
 def knows(view, place, patch, told):
-    """Whether a client has to know what the slot shows, by the protocol's table."""
+    """True if a client has to know what the slot shows, by the protocol's table."""
     shown = view[place]
     if "" in view:
         return True
@@ -101,7 +101,7 @@ def knows(view, place, patch, told):
 
 
 def may_shift(pointer, shown):
-    """Whether the slot is gone from its place if the pointer's last token is a position in a list:
+    """True if the slot is gone from its place if the pointer's last token is a position in a list:
     the slots may not tell."""
     holder, _, token = pointer.rpartition("/")
     return (token.isdigit() or token == "-") and shown.startswith(holder + "/")

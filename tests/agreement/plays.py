@@ -1,4 +1,4 @@
-"""What the relay does with the cases, and what it tells a watcher of them."""
+"""Finds what the relay does with the cases, and what it tells a watcher of them."""
 import json, subprocess
 
 
@@ -38,7 +38,7 @@ class Case:
 
 
 class Held:
-    """What a watcher holds, by the relay's own follower."""
+    """The slots that a watcher holds, by the relay's own follower."""
 
     def __init__(self, line):
         self.rev, self.slots = int(line.split(" ")[2]), json.loads(rest(line, 3))

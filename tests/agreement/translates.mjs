@@ -1,5 +1,5 @@
-// What the JavaScript client makes of patches: reads a line `[view, slots, patch, after]` for each,
-// and writes a line with what tests/agreement/clients.py says.
+// Prints what the JavaScript client makes of patches: reads a line `[view, slots, patch, after]`
+// for each, and writes a line with what tests/agreement/clients.py says.
 import { createInterface } from "node:readline";
 import { after, knownBy, slotOf } from "../../clients/javascript/src/known.mjs";
 import { inverse } from "../../clients/javascript/src/inverse.mjs";

@@ -66,7 +66,8 @@ class Driver:
         self.tell(do="late", text=text)
 
     def look(self):
-        """What the client holds, when it has done all that follows from what it was told."""
+        """Returns what the client holds, when it has done all that follows from what it was
+        told."""
         self.tell(do="look")
         self.held = self._until("held")
         return self.held

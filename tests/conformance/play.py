@@ -1,4 +1,4 @@
-"""What a case of the suite says: a client under test, a relay, and what is between them."""
+"""Defines what a case of the suite says: a client under test, a relay, and what is between them."""
 import json
 from driver import Failed
 from relay import shows, text
@@ -73,8 +73,8 @@ class Play:
         return requests
 
     def asks_anew(self):
-        """What came does not follow from what is held, so that may be wrong: the client watches, on
-        this connection or on another one, and does not resume."""
+        """A message that came does not follow from what is held, so that may be wrong: the client
+        watches, on this connection or on another one, and does not resume."""
         requests = self.heard()
         if self.driver.left:
             self.resumes_of = None
@@ -114,7 +114,7 @@ class Play:
         self.driver.hear(words_of({**message, **self.more}))
 
     def say_late(self, message):
-        """What was on its way on a connection that is gone."""
+        """Says what was on its way on a connection that is gone."""
         self.driver.hear_late(words_of(message))
 
     def talk(self, rounds=20):
@@ -167,7 +167,7 @@ class Play:
         self.look_for({"view": view, "slots": slots, "rev": rev, "epoch": epoch})
 
     def shows(self, slots):
-        """What a client shows that lays its own edits over the slots."""
+        """Checks what a client shows that lays its own edits over the slots."""
         self.look_for({"shown": slots})
 
     def look_for(self, wanted):
@@ -189,7 +189,7 @@ class Play:
             raise Failed(f"request {key} ends with {end}, and not with {wanted}")
 
     def end_of(self, key):
-        """How a request ended; None if it has not."""
+        """The end of a request; None if it has not ended."""
         self.driver.look()
         return self.driver.ended.get(key)
 

@@ -8,7 +8,7 @@ LARGEST = 2**53 - 1
 HISTORY = 8
 """Revisions that the room can be resumed from."""
 HEAVIEST = 65536
-"""What a will weighs at most, about as many bytes as its text has."""
+"""The most that a will weighs, about as many bytes as its text has."""
 ON_THE_WAY = 31
 """Requests without a reply: with one more 32 replies could wait, and the relay would read nothing
 until one was drawn."""

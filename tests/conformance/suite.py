@@ -14,7 +14,7 @@ ABREAST = os.cpu_count() or 1
 
 @dataclass(frozen=True)
 class Played:
-    """How a case came out: `wrong` is None if the client did what it has to, and `asked` is false
+    """The outcome of a case: `wrong` is None if the client did what it has to, and `asked` is false
     if the case does not concern it."""
 
     name: str
@@ -23,7 +23,7 @@ class Played:
 
 
 def traits_of(command):
-    """What the driver says of its client."""
+    """Returns what the driver says of its client."""
     driver = Driver(command)
     try:
         driver.begin([""])
@@ -50,7 +50,7 @@ def play(command, traits, case):
 
 
 def circumstances(case, driver, failed):
-    """What a reader of a failure needs to know."""
+    """The circumstances that a reader of a failure needs to know."""
     lines = textwrap.wrap(f"wanted:      {case.wants}", 96, subsequent_indent=" " * 13)
     lines.append(f"came last:   {short(driver.heard or 'nothing')}")
     lines.append(f"is held:     {short(driver.held or 'nothing')}")
@@ -60,7 +60,7 @@ def circumstances(case, driver, failed):
 
 
 def play_all(command, cases=CASES, abreast=ABREAST):
-    """How each of these cases comes out, in their order."""
+    """The outcomes of these cases, in their order."""
     traits = traits_of(command)
     with ThreadPoolExecutor(abreast) as players:
         yield from players.map(lambda case: play(command, traits, case), cases)

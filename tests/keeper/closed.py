@@ -114,7 +114,7 @@ class Play(Found):
                 raise AssertionError("an editor ended")
 
     def check_kept(self, room, moment):
-        """What the database has, right after a kill."""
+        """Checks what the database has, right after a kill."""
         editor = self.editors[room]
         document = whole(self.database.sql(OF_ROOM.format(room), self.address))
         age = editor.age(document["n"], moment)

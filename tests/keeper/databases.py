@@ -1,5 +1,5 @@
-"""What one kind of store does, beside the cases that all of them share (stores.py): how a lease is
-lost, what a database refuses, and what names no store."""
+"""Tests of what one kind of store does, beside the cases that all of them share (stores.py): how a
+lease is lost, what a database refuses, and what names no store."""
 
 import contextlib
 import pathlib

@@ -51,7 +51,7 @@ class Found(Place):
         self.keeper = subprocess.Popen(words, env=environment, stdout=subprocess.DEVNULL)
 
     def listed(self):
-        """What the relay tells of its rooms, by their names."""
+        """Returns what the relay tells of its rooms, by their names."""
         rooms = json.loads(asking.get(self.admin, "/rooms").body)
         return {room["name"]: room for room in rooms}
 
@@ -70,7 +70,7 @@ class Found(Place):
             return int(asking.all_of(stream).split(b" ", 2)[1])
 
     async def exported(self):
-        """What the store has, by the rooms' names."""
+        """Returns what the store has, by the rooms' names."""
         words = words_of("export", "--store", self.store)
         asked = functools.partial(subprocess.run, words, stdout=subprocess.PIPE, text=True)
         told = await asyncio.get_running_loop().run_in_executor(None, asked)

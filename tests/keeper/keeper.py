@@ -25,7 +25,7 @@ def words_of(*words):
 
 
 def says(*words):
-    """What `relay-keeper` prints, and its status."""
+    """Returns what `relay-keeper` prints, and its status."""
     ran = subprocess.run(words_of(*words), **HEARD)
     return ran.stdout, ran.returncode
 
@@ -48,7 +48,7 @@ class Manager:
                 return
 
     def heard(self):
-        """What was told and not looked at yet."""
+        """Returns what was told and not looked at yet."""
         try:
             return self.socket.recv(4096).decode().split("\n")
         except BlockingIOError:

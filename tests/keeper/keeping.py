@@ -1,4 +1,4 @@
-"""What the files of a keeper have, and what rooms have after a restart."""
+"""Tests of what the files of a keeper have, and what rooms have after a restart."""
 
 import asyncio
 import signal
@@ -133,7 +133,7 @@ async def rooms_are_kept_by_name_and_by_pattern_and_a_bad_name_is_refused(here):
 
 @shows
 async def what_cannot_be_put_back_is_set_aside(here):
-    """What is no JSON is left alone, and the keeper is not ready while it is there."""
+    """A file that is no JSON is left alone, and the keeper is not ready while it is there."""
     here.folder.mkdir()
     here.file("one").write_text("1.5")
     here.file("two").write_text('{"torn')

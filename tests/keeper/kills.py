@@ -81,7 +81,8 @@ class Editor:
         return max((number for at, number in self.answered if at <= moment), default=0)
 
     def age(self, number, moment):
-        """How old a state is that has this number: for how long the next one had been answered."""
+        """The age of a state that has this number: the time for which the next one had been
+        answered."""
         newer = [at for at, other in self.answered if other > number and at <= moment]
         return moment - min(newer, default=moment)
 

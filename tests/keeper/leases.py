@@ -52,7 +52,7 @@ class Keeper:
 
 
 def kept(where):
-    """What the store has of the room."""
+    """Returns what the store has of the room."""
     words = words_of("export", "--store", where, "board")
     return subprocess.run(words, stdout=subprocess.PIPE, text=True).stdout
 

@@ -1,5 +1,5 @@
-"""How often the keeper writes: by a clock that is played, and by what one wrote beside edits of 4
-KB a second to a document of 1 MB."""
+"""Tests of how often the keeper writes: by a clock that is played, and by what one wrote beside
+edits of 4 KB a second to a document of 1 MB."""
 
 import asyncio
 import contextlib
@@ -149,8 +149,8 @@ async def it_writes_little_beside_4_kilobytes_a_second():
 
 
 def most(brought, size, seconds):
-    """What the keeper may write: what was paid for, and a document for each age and for its
-    end."""
+    """The bytes that the keeper may write: what was paid for, and a document for each age and for
+    its end."""
     age = AGE * min(size / LARGE, 1)
     return 10 * brought + (1 + seconds / age) * 1.1 * size
 

@@ -1,4 +1,5 @@
-"""How kept documents come back into a relay by its operator's port, which is played here."""
+"""Tests of how kept documents come back into a relay by its operator's port, which is played
+here."""
 
 from keeper import says
 from played_port import KEPT, OTHER, play

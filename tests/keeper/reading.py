@@ -1,5 +1,5 @@
-"""How rooms that nobody is in are kept by the operator's port, which is played here, and when the
-keeper takes the relay to be in another run."""
+"""Tests of how rooms that nobody is in are kept by the operator's port, which is played here, and
+of when the keeper takes the relay to be in another run."""
 
 import contextlib
 from concurrent.futures import ThreadPoolExecutor
@@ -42,14 +42,14 @@ def a_room_is_kept_as_the_relay_gives_it():
 
 @contextlib.contextmanager
 def finding(here):
-    """What finds the rooms of the played port."""
+    """Yields what finds the rooms of the played port."""
     with ThreadPoolExecutor(1) as disk:
         means = Means("ws://127.0.0.1:1", here.store, disk, lambda: Pace(10, 5))
         yield Finding(here.admin, ALL, means)
 
 
 def asked(here, method, path):
-    """How often that was asked for, since the last time."""
+    """The number of times that that was asked for, since the last time."""
     count = [(it[0], it[1]) for it in here.port.asked].count((method, path))
     here.port.asked.clear()
     return count

@@ -53,7 +53,7 @@ class Member:
         return {it["name"]: it for it in json.loads(asking.get(self.admin, "/rooms").body)}
 
     async def refuses(self, room):
-        """Whether no session is opened."""
+        """True if no session is opened."""
         try:
             async with websockets.connect(self.relay.url(room)) as link:
                 await link.recv()

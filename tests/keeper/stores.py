@@ -7,6 +7,7 @@ import threading
 from relay_keeper.state import State, stamp
 from relay_keeper.store import LeaseLost, NoState
 from relay_keeper.stores import opened
+from support.patience import until
 from support.play import main, shows
 from support.postgres import cluster
 
@@ -32,7 +33,7 @@ def state(revision, document, epoch=7, room="board", at=None):
 
 
 class Places:
-    """Where stores are, of one kind."""
+    """The places where stores of one kind are."""
 
     def __init__(self, kind, folder, database):
         self.kind, self.folder, self.database, self.count = kind, folder, database, 0
@@ -181,7 +182,8 @@ def a_store_is_there_again_and_has_one_holder(places):
             refuses(LeaseLost, write)
         assert second.get("board") == state(1, FIRST) and second.older("board") == []
         first.close()
-        assert second.take() and second.get("board") == state(1, FIRST)
+        until(second.take)  # a database gives it back once it has seen the close
+        assert second.get("board") == state(1, FIRST)
         second.check()
 
 

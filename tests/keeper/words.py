@@ -13,6 +13,7 @@ from relay_keeper.stores import opened
 from support.play import main, shows
 from support.postgres import cluster
 
+NOBODY = "http://127.0.0.1:1"
 SHARE = ("share", "ws://127.0.0.1:1", "--admin", "http://127.0.0.1:1")
 FIRST, SECOND = {"cards": ["milk", "\x00 é \t\n"]}, [1, None, {"a/b": {}}]
 
@@ -74,6 +75,30 @@ def what_it_exports_it_imports(database):
             assert status == 0 and written.startswith("3 rooms written, 0 left out"), written
             assert run("export", "--store", other) == (told, "", 0), other
     assert texts[0] == texts[1] == texts[2]
+
+
+@shows
+def of_a_database_of_several_relays_one_is_named(database):
+    """Otherwise a backup would be empty, or without the rooms of the others, and look right."""
+    for where in stores(database):
+        if where.startswith("files:"):
+            continue
+        for relay, room in (("boards", "one"), ("relay-8081", "two")):
+            with contextlib.closing(opened(where, relay)) as store:
+                assert store.take()
+                store.put(State(room, 7, 1, room, 1))
+        asks = (["list"], ["export"], ["restore", "one"], ["restore", "--admin", NOBODY])
+        for words in [*asks, *([*words, "--relay", "roards"] for words in asks)]:
+            told, fault, status = run(*words, "--store", where)
+            assert (told, status) == ("", 1), (words, told, status)
+            assert "of these relays: boards, relay-8081; name one by --relay\n" in fault, fault
+        told, fault, status = run("export", "--store", where, "--relay", "boards")
+        assert (fault, status) == ("", 0) and json.loads(told)["room"] == "one", (told, fault)
+        with contextlib.closing(opened(where)) as store:
+            assert store.take()
+            store.put(State("third", 7, 1, 3, 1))
+        told, fault, status = run("export", "--store", where)
+        assert (told, status) == ("", 1) and "boards, relay, relay-8081; name" in fault, fault
 
 
 @shows

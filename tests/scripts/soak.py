@@ -27,7 +27,7 @@ WANTED = {'"kind":"patch"': 50, '"kind":"snapshot"': 50, '"how":"patch"': 20}
 
 
 class Wrong(Exception):
-    """What must not come out."""
+    """A result that must not come out."""
 
 
 class Soak:
@@ -37,7 +37,7 @@ class Soak:
         self.seen = collections.Counter()
 
     def answer(self, name, words):
-        """What is answered to one more line of a name."""
+        """Returns what is answered to one more line of a name."""
         self.ran.stdin.write(f"n{name} {words}\n".encode())
         self.ran.stdin.flush()
         answer = self.ran.stdout.readline().decode().rstrip("\n")
@@ -113,7 +113,7 @@ class Soak:
 
 
 def fault_of(path, job):
-    """Why a run by a job is not what it should be, or None."""
+    """Tells why a run by a job is not what it should be, or None."""
     with subprocess.Popen(
         [path, job, *OPTIONS], stdin=subprocess.PIPE, stdout=subprocess.PIPE
     ) as ran:

@@ -48,7 +48,7 @@ class Client:
             self.shown.append((time.monotonic(), self.own()))
 
     def own(self):
-        """What its room has of it."""
+        """Returns what its room has of it."""
         [slot] = self.board.confirmed
         return slot[0].get(str(self.number), 0) if slot else 0
 
@@ -79,12 +79,13 @@ class Client:
         await self.board.sync()
 
     def is_back(self, since):
-        """Whether it was shown the room in another run, and is answered."""
+        """True if it was shown the room in another run, and is answered."""
         came = self.shown[-1][0] if self.shown else 0
         return bool(came > since and self.answered and self.answered[-1][0] > came)
 
     def lost(self, since):
-        """When each edit was answered that the room came back without, after that moment."""
+        """The time at which each edit was answered that the room came back without, after that
+        moment."""
         came, own = next((at, own) for at, own in self.shown if at > since)
         return [at for at, number in self.answered if number > own and at < came]
 

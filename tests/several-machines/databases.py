@@ -52,7 +52,7 @@ class Database:
         return subprocess.run(words, **QUIET).returncode == 0
 
     def sql(self, statement):
-        """What psql prints of it."""
+        """Returns what psql prints of it."""
         words = [programs() / "psql", "-X", "-q", "-A", "-t", "-h", self.machine.address]
         words += ["-U", "postgres", "-c", statement]
         told = subprocess.run(words, check=True, stdout=subprocess.PIPE, text=True)

@@ -1,4 +1,4 @@
-"""What systemd does with the units of docs/running: supervisor.py KEEPER RELAY
+"""Does what systemd does with the units of docs/running: supervisor.py KEEPER RELAY
 
 The relay is started once its keeper is ready. When one of them ends the other one is ended, and
 both are started again. Each line that they say is passed on."""

@@ -1,4 +1,4 @@
-// What snippets of the documents may use without saying where it comes from: what
+// Declares what snippets of the documents may use without saying where it comes from: what
 // tests/snippets/play.mjs makes.
 interface Shopping {
   cards: string[];

@@ -1,5 +1,5 @@
-// How an application in TypeScript uses the client: it compiles in strict mode, and what is marked
-// does not.
+// Shows how an application in TypeScript uses the client: it compiles in strict mode, and what is
+// marked does not.
 import {
   Refused,
   connect,
@@ -37,7 +37,14 @@ use<number | undefined>(plain.slots?.[1][0]);
 
 // With the document's type: places by their pointers.
 const plan = connect<Plan>(url, { view });
-use<Card[] | undefined>(plan.at("/cards").value);
+use<readonly Card[] | undefined>(plan.at("/cards").value);
+// @ts-expect-error: what is shown is sorted as a copy.
+plan.at("/cards").value?.sort();
+// @ts-expect-error: nor is a part of it written to.
+plan.at("/cards").value![0].text = "tea";
+use<Card[] | undefined>([...(plan.at("/cards").value ?? [])]);
+use<Promise<number>>(plan.at("/cards").set([...(plan.at("/cards").value ?? []), card]));
+use<Promise<number>>(plan.at("/cards").update((cards) => cards && [...cards, card]));
 use<boolean | undefined>(plan.at("/cards/0/done").value);
 use<boolean | undefined>(plan.at("/a~1b/m~0n").value);
 use<number | undefined>(plan.at({ size: "/cards" }).value);
@@ -53,7 +60,9 @@ const whole = connect<Plan, typeof view>(url, {
   view,
   onChange: ({ confirmed }) => use<string | undefined>(confirmed[2][0]),
 });
-use<Card[]>(whole.slots?.[0][0] ?? []);
+use<readonly Card[]>(whole.slots?.[0][0] ?? []);
+// @ts-expect-error: what is shown is sorted as a copy.
+whole.slots?.[0][0]?.reverse();
 use<number | undefined>(whole.slots?.[1][0]);
 // @ts-expect-error: the view has three slots.
 use<unknown>(whole.slots?.[3]);
@@ -106,7 +115,7 @@ use<Promise<void>>(whole.will([{ op: "remove", path: "/here/ann" }]));
 use<Promise<void>>(shared.view(["/cards"]).will([]));
 use<Promise<number>>(connect<Plan>(url, { view, readOnly: true }).end());
 use<number>(room<Plan>(url, { readOnly: true }).connections);
-use<Promise<readonly [readonly [value?: Card[]]]>>(shared.view(["/cards"]).sync());
+use<Promise<readonly [readonly [value?: readonly Card[]]]>>(shared.view(["/cards"]).sync());
 use<string | undefined>(shared.view(["/title"]).slots?.[0][0]);
 use<string | undefined>(presence(whole, "/here", { name: "Ann" }).people["1"]?.name);
 whole.edit([]).catch((error) => error instanceof Refused && use<string>(error.fault));

@@ -35,15 +35,15 @@ function leadsInto(inner, outer) {
   return inner.length > outer.length && inner.startsWith(outer) && inner[outer.length] === "/";
 }
 
-// Where a part comes or goes at what may be a place in a list, the parts behind it move.
+// The parts behind a part move where it comes or goes at what may be a place in a list.
 function moved(path) {
   const slash = path.lastIndexOf("/");
   return /^(-|[0-9]+)$/.test(path.slice(slash + 1)) ? path.slice(0, slash) : path;
 }
 
 /**
- * What a change at a path means to a slot: that it is `apart`, `inside` what the slot shows, or
- * that the slot is to be told anew.
+ * Tells what a change at a path means to a slot: that it is `apart`, `inside` what the slot shows,
+ * or that the slot is to be told anew.
  */
 function touch(pointer, path, op) {
   if (leadsInto(path, pointer)) return "inside";

@@ -1,4 +1,4 @@
-"""What a case is, and what cases have in common."""
+"""Defines what a case is, and what cases have in common."""
 from dataclasses import dataclass
 from typing import Callable, List, Optional
 from driver import Driver
@@ -16,7 +16,7 @@ CASES: "List[Case]" = []
 class Case:
     name: str
     wants: str
-    """What a client has to do, in words."""
+    """The things that a client has to do, in words."""
     needs: Optional[str]
     """The traits of the client without which it is not asked."""
     unless: Optional[str]

@@ -1,4 +1,4 @@
-"""What a later relay may say."""
+"""Cases of what a later relay may say."""
 from .common import CARDS, back, begun, case, push
 
 LATER = {"later": {"op": "remove", "path": ""}, "zone": [None]}

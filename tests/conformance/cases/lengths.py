@@ -9,13 +9,13 @@ one that is longer than the second."""
 
 
 def bytes_said(play):
-    """How long each text is that the client has said since it was looked at last."""
+    """The length of each text that the client has said since it was looked at last."""
     play.driver.look()
     return [len(text.encode()) for text in play.driver.said]
 
 
 def bytes_around(play):
-    """How long an edit is whose value is an empty text."""
+    """The length of an edit whose value is an empty text."""
     play.edit(push(""))
     [length] = bytes_said(play)
     play.talk()

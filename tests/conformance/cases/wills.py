@@ -12,7 +12,7 @@ HEAVY = replace("/n", "x" * 70_000)
 
 
 def stands(play, *patch):
-    """What the relay is to do now."""
+    """Checks what the relay is to do now."""
     if play.relay.will != list(patch):
         raise Failed(f"the will of the session is {play.relay.will}, and not {list(patch)}")
 

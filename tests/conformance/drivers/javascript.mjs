@@ -55,7 +55,7 @@ const does = {
     former = socket;
     socket.onclose?.({});
   },
-  edit: ({ key, patch, ...options }) => ends(key, "done", board.edit(patch, options)),
+  edit: ({ do: _, key, patch, ...options }) => ends(key, "done", board.edit(patch, options)),
   endRoom: ({ key }) => ends(key, "done", board.end()),
   will: ({ key, patch }) => ends(key, "willing", board.will(patch).then(() => true)),
   present: ({ key, path, entry }) =>
