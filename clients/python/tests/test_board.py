@@ -302,9 +302,10 @@ class Optimistic(unittest.IsolatedAsyncioTestCase):
         relay = FakeRelay()
         board = await relay.begin([{"size": ""}, "/n", "/m", "/0/x"], [[2], [1], [], []])
         add = lambda path: {"op": "add", "path": path, "value": 3}
-        board.edit([add("/m")], optimistic=True)
+        unawaited(board.edit([add("/m")], optimistic=True))
         self.assertEqual(board.slots, [[3], [1], [3], []])
-        board.edit([add("/0"), {"op": "remove", "path": "/m"}], optimistic=True)
+        removed = board.edit([add("/0"), {"op": "remove", "path": "/m"}], optimistic=True)
+        unawaited(removed)
         self.assertEqual(board.slots, [[3], [1], [], []])
         await board.close()
 
@@ -389,7 +390,7 @@ class Listening(unittest.IsolatedAsyncioTestCase):
         await self.raise_n(2)
         await self.relay.say(patch(3, {"op": "add", "path": "/1/0/0", "value": "tea"}))
         self.assertEqual(heard, [2])
-        card.set("bread")
+        unawaited(card.set("bread"))
         self.assertEqual(self.board.slots, [[2], [["bread", "milk"]]])
         await settle()
         self.assertEqual(

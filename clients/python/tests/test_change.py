@@ -1,6 +1,16 @@
 """Changes by drafts and of lists, with a relay that the test plays."""
 import asyncio, unittest
-from fake import FakeRelay, done, patch, refused, relay_client, settle, snapshot, watching
+from fake import (
+    FakeRelay,
+    done,
+    patch,
+    refused,
+    relay_client,
+    settle,
+    snapshot,
+    unawaited,
+    watching,
+)
 
 CARDS = [{"id": "m", "text": "milk"}, {"id": "b", "text": "bread"}]
 
@@ -123,10 +133,10 @@ class Changes(unittest.IsolatedAsyncioTestCase):
             relay_client.Refused, "changed: element 1 is not there any more"
         ):
             await removed
-        place.push("x", "y")
-        place.insert(1, "w")
-        place.insert(4, "v")
-        place.move(0, 2)
+        unawaited(place.push("x", "y"))
+        unawaited(place.insert(1, "w"))
+        unawaited(place.insert(4, "v"))
+        unawaited(place.move(0, 2))
         await settle()
         self.assertEqual(place.value, ["w", "x", "z", "y", "v"])
         self.assertEqual(
@@ -158,7 +168,7 @@ class Changes(unittest.IsolatedAsyncioTestCase):
             (lambda: cards.insert({"id": "x"}, "m"), ["test /cards/1/id", "add /cards/1"]),
             (lambda: cards.remove("b"), ["test /cards/0/id", "remove /cards/0"]),
         ]:
-            act()
+            unawaited(act())
             await settle()
             self.assertEqual(self.sent(), sent)
         for gone in (lambda: cards.remove("y"), lambda: cards.move("x", "y")):
