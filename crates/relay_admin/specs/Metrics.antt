@@ -41,6 +41,8 @@ connections_text m = concat
     ∷ gauge (codes "relay_connections_limit") (codes "Connections that may be held.")
     m.max_connections
     ∷ counter (codes "relay_sessions_opened_total") (codes "Sessions that were opened.") m.opened
+    ∷ counter (codes "relay_connections_rejected_total")
+    (codes "Connections rejected, since their address had as many as it may.") m.rejected
     ∷ [])
 
 -- the handshakes that were refused
@@ -49,6 +51,7 @@ refused_text r =
     labelled_counter (codes "relay_handshakes_refused_total")
     (codes "Handshakes refused, by the status.") (codes "status")
     ((codes "400", r.bad_request)
+    ∷ (codes "403", r.forbidden)
     ∷ (codes "404", r.not_found)
     ∷ (codes "405", r.method)
     ∷ (codes "426", r.upgrade)
@@ -67,6 +70,7 @@ ended_text e =
     ∷ (codes "stream", e.stream)
     ∷ (codes "memory", e.memory)
     ∷ (codes "full", e.full)
+    ∷ (codes "slow", e.slow)
     ∷ (codes "silent", e.silent)
     ∷ (codes "relay", e.relay)
     ∷ [])

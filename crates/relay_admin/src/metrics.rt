@@ -30,6 +30,9 @@ pub struct Metrics<'a> {
     pub waiting_weight: u64,
     /// The number of sessions that were opened.
     pub opened: u64,
+    /// The number of connections that were rejected as they came, since their address had as many
+    /// as it may.
+    pub rejected: u64,
     pub refused: RefusedBy,
     pub ended: EndedBy,
     pub drawn: DrawnMessages<'a>,
@@ -47,6 +50,8 @@ pub struct Metrics<'a> {
 pub struct RefusedBy {
     /// 400
     pub bad_request: u64,
+    /// 403
+    pub forbidden: u64,
     /// 404
     pub not_found: u64,
     /// 405
@@ -68,6 +73,7 @@ pub struct EndedBy {
     pub stream: u64,
     pub memory: u64,
     pub full: u64,
+    pub slow: u64,
     pub silent: u64,
     /// Ended by the relay: it was the oldest without a session when a place was needed, or the
     /// relay ends.
@@ -221,6 +227,12 @@ fn write_connections(
             help: "Sessions that were opened.",
             values: One(metrics.opened),
         },
+        Metric {
+            name: "relay_connections_rejected_total",
+            kind: Counter,
+            help: "Connections rejected, since their address had as many as it may.",
+            values: One(metrics.rejected),
+        },
     ];
     write_metrics(alloc, text, &rows)
 }
@@ -232,6 +244,7 @@ fn write_refused(alloc: Global, text: &mut String, refused: &RefusedBy) -> Resul
 {
     let counts = [
         ("400", refused.bad_request),
+        ("403", refused.forbidden),
         ("404", refused.not_found),
         ("405", refused.method),
         ("426", refused.upgrade),
@@ -258,6 +271,7 @@ fn write_ended(alloc: Global, text: &mut String, ended: &EndedBy) -> Result<(), 
         ("stream", ended.stream),
         ("memory", ended.memory),
         ("full", ended.full),
+        ("slow", ended.slow),
         ("silent", ended.silent),
         ("relay", ended.relay),
     ];

@@ -15,8 +15,10 @@ const NUMBERS: Metrics<'static> = Metrics {
     history_weight: 36,
     waiting_weight: 37,
     opened: 9,
+    rejected: 38,
     refused: RefusedBy {
         bad_request: 10,
+        forbidden: 39,
         not_found: 11,
         method: 12,
         upgrade: 13,
@@ -30,6 +32,7 @@ const NUMBERS: Metrics<'static> = Metrics {
         stream: 19,
         memory: 20,
         full: 21,
+        slow: 40,
         silent: 22,
         relay: 23,
     },
@@ -89,9 +92,13 @@ relay_connections_limit 6
 # HELP relay_sessions_opened_total Sessions that were opened.
 # TYPE relay_sessions_opened_total counter
 relay_sessions_opened_total 9
+# HELP relay_connections_rejected_total Connections rejected, since their address had as many as it may.
+# TYPE relay_connections_rejected_total counter
+relay_connections_rejected_total 38
 # HELP relay_handshakes_refused_total Handshakes refused, by the status.
 # TYPE relay_handshakes_refused_total counter
 relay_handshakes_refused_total{status="400"} 10
+relay_handshakes_refused_total{status="403"} 39
 relay_handshakes_refused_total{status="404"} 11
 relay_handshakes_refused_total{status="405"} 12
 relay_handshakes_refused_total{status="426"} 13
@@ -105,6 +112,7 @@ relay_connections_ended_total{cause="broken"} 18
 relay_connections_ended_total{cause="stream"} 19
 relay_connections_ended_total{cause="memory"} 20
 relay_connections_ended_total{cause="full"} 21
+relay_connections_ended_total{cause="slow"} 40
 relay_connections_ended_total{cause="silent"} 22
 relay_connections_ended_total{cause="relay"} 23
 # HELP relay_replies_total Replies drawn for sessions, refusals among them.

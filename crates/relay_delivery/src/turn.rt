@@ -21,7 +21,7 @@ use std::io::{Read, Write};
 /// let mut hub = Hub::new(alloc, 1, 1, 64, 32).ok()?;
 /// let mut link = Link::new(alloc, End { wire: &wire }).ok()?;
 /// wire.try_borrow_mut().ok()?.perform(alloc, "asks 13 /rooms/a").ok()?;
-/// link.read_turn(alloc, &Entrance::Open, &mut hub, MAX_DRAWS).ok()?;
+/// link.read_turn(alloc, &EntryRules::none(alloc), &mut hub, MAX_DRAWS).ok()?;
 /// // The turn draws the welcome.
 /// write_turn(alloc, &mut link, &mut hub, MAX_DRAWS).ok()?;
 /// assert!(rt; wire.try_borrow_mut().ok()?.output.as_slice().ends_with(b"\"session\":1}"));

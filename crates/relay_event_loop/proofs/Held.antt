@@ -15,6 +15,7 @@ use Rattle.relay_hub.specs.declared.event.Event.{Event}
 use Rattle.relay_hub.specs.declared.event.Event.TheVariants.{DoWill, Forget}
 use Rattle.relay_hub.specs.declared.fault.ForgetFault.{ForgetFault}
 use Rattle.relay_link.specs.Asks.{asked_by, IsFresh, Receives}
+use Rattle.relay_link.specs.EntryRules.{Denials, none_denied}
 use Rattle.relay_link.specs.Follows.{Follows, at, no_opening, closing_of}
 use Rattle.relay_link.specs.Hears.{PassesTexts}
 use Rattle.relay_link.specs.Replies.{Replies}
@@ -22,8 +23,6 @@ use Rattle.relay_link.proofs.Following.{follows_none}
 use Rattle.relay_link.proofs.Hearing.{passes_ended}
 use Rattle.relay_link.specs.Stage.{stage_of, session_of}
 use Rattle.relay_link.specs.Visits.{Visits}
-use Rattle.relay_link.specs.declared.entrance.Entrance.{Entrance}
-use Rattle.relay_link.specs.declared.entrance.Entrance.TheVariants as entry
 use Rattle.relay_link.specs.declared.stage.Stage.TheVariants as stage
 use Rattle.relay_link.specs.declared.state.State.{State as Link}
 use Rattle.relay_link.specs.declared.state.State.TheVariants.{Head, Replying, Open, Closing, Gone}
@@ -124,16 +123,16 @@ module _ {S : Type 0} (held : Slab (Connection S)) (key : ℕ) (was is : Connect
         (sym same) (woken hub link)
 
     -- Its link made a turn.
-    pub turned : (hub next : State) (events : List Event) (entrance : Entrance)
+    pub turned : (hub next : State) (events : List Event) (denied : Denials)
         → Follows (asked_by remaining was.link) (at hub (session_of was.link) [])
         (at next (session_of is.link) events)
         → Receives remaining was.link is.link
         → PassesTexts remaining 1 hub was.link is.link [] events
         → Framed remaining contents hub next events was.link is.link
-        → Replies remaining contents entrance was.link is.link
+        → Replies remaining contents denied was.link is.link
         → Advances remaining contents hub (links_of held) next (links_of (with_value held key is))
-    turned hub next events entrance follows received passes framed replies =
-        let by = sending_by remaining contents hub next events was.link is.link entrance follows
+    turned hub next events denied follows received passes framed replies =
+        let by = sending_by remaining contents hub next events was.link is.link denied follows
         framed replies in
         turns (stays (λ other. refl)) key events (ap of there) (ap of written.changed)
         (updated_others held (with_value held key is) key (Some is) written) by.follows received
@@ -145,7 +144,7 @@ module _ {S : Type 0} (held : Slab (Connection S)) (key : ℕ) (was is : Connect
         → events ≡ closing_of (session_of was.link) → stage_of is.link ≡ stage.Gone
         → Advances remaining contents hub (links_of held) next (links_of (with_value held key is))
     ended hub next events follows closes gone =
-        turned hub next events entry.Open (follows_none follows)
+        turned hub next events none_denied (follows_none follows)
         (gone_receives remaining was.link is.link gone)
         (passes_ended remaining hub was.link is.link events closes gone)
         (gone_framed remaining contents hub next events was.link is.link gone)

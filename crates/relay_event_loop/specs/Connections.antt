@@ -1,6 +1,9 @@
 -- The parts of a server that are counted: its connections and its rounds; and whether the hub
 -- accepts a request of a connection.
 use Rattle.std.specs.Prelude.{ℕ, ◌+◌, ◌-◌, ◌/◌, ◌^◌, min, max, Bool, true, Option, Some, None}
+use Rattle.std.specs.Prelude.{List}
+use Rattle.std.specs.Global.{Global}
+use Rattle.std.specs.declared.string.String.{String}
 use Rattle.relay_hub.specs.State.{State, session_of}
 use Rattle.relay_hub.specs.Queries.{may_hear}
 use Rattle.slab.specs.Slab.{slab_len}
@@ -22,9 +25,17 @@ made_by s = s.rounds
 abbrev pub made_after : {S R : Type 0} → ℕ → Server S R → ℕ
 made_after rounds s = min (2 ^ 64 - 1) (made_by s + rounds)
 
--- whether clients may enter
+-- the rooms in which clients may enter
 abbrev pub entrance_of : {S R : Type 0} → Server S R → Entrance
-entrance_of s = s.entrance
+entrance_of s = s.rules.entrance
+
+-- the origins whose pages may enter
+abbrev pub origins_of : {S R : Type 0} → Server S R → List (String Global)
+origins_of s = s.rules.origins.items
+
+-- how many connections of one address a server may hold
+abbrev pub peer_limit_of : {S R : Type 0} → Server S R → ℕ
+peer_limit_of s = s.max_per_peer
 
 abbrev pub hub_of : {S R : Type 0} → Server S R → State
 hub_of s = s.hub

@@ -15,7 +15,7 @@ use relay_schedule::{Credit, LinkOutput, Output, Wants};
 use std::alloc::{AllocError, Global};
 use std::cell::Cell;
 use std::io::{Read, Write};
-use std::net::SocketAddr;
+use std::net::{IpAddr, SocketAddr};
 
 /// The most bytes of a room's name.
 const MAX_NAME: usize = 64;
@@ -37,6 +37,8 @@ pub(crate) struct Connection<S: Write + Drop> {
     /// True if something became ready since the last read turn of the link, or that turn left
     /// something to read in the stream.
     pub read_pending: bool,
+    /// True if it has sent a byte.
+    pub has_sent: bool,
     /// Its position in the order of arrival, from 0.
     pub arrival: u64,
     /// The round in which it was accepted.
@@ -72,6 +74,7 @@ impl<S: Read + Write + Drop> Connection<S> {
             link: Link::new(alloc, stream)?,
             readiness,
             read_pending: true,
+            has_sent: false,
             arrival,
             since,
             standing: Cell::new(Standing {
@@ -102,6 +105,11 @@ impl<S: Read + Write + Drop> Connection<S> {
         ensures { self.new.link ≡ self.old.link }
     {
         self.fault = Some(fault);
+    }
+
+    /// The address of its other side.
+    pub(crate) fn address(&self) -> IpAddr {
+        self.peer.ip()
     }
 
     /// Its identity, for the log.

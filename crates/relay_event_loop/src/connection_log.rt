@@ -43,6 +43,10 @@ pub enum LogEntry<'a> {
         connection: ConnectionId,
         rounds: u64,
     },
+    /// A connection was rejected as it came, since its address had as many as it may.
+    Rejected {
+        peer: SocketAddr,
+    },
     /// An allocation failed, so the hub gave memory back ([`relay_hub::Hub::shed`]).
     OutOfMemory,
 }
@@ -157,6 +161,7 @@ impl Display for LogEntry<'_> {
             LogEntry::Evicted { connection, rounds } => {
                 write!(f, "event=evicted {connection} rounds={rounds}")
             }
+            LogEntry::Rejected { peer } => write!(f, "event=rejected peer={peer} cause=per-peer"),
             LogEntry::OutOfMemory => f.write_str("event=out-of-memory"),
         }
     }
@@ -200,14 +205,15 @@ fn cause_word(cause: EndCause) -> &'static str {
         EndCause::Stream => "stream",
         EndCause::Memory => "memory",
         EndCause::Full => "full",
+        EndCause::Slow => "slow",
         EndCause::Silent => "silent",
         EndCause::Ended => "relay",
         EndCause::Refused(_) => "refused",
     }
 }
 
-/// Receives an entry for each connection that opens, is refused, ends or is evicted, and if memory
-/// was refused.
+/// Receives an entry for each connection that opens, is refused, rejected, ended or evicted, and if
+/// memory was refused.
 ///
 /// ```
 /// // A log of the tests, which writes a line for each entry.

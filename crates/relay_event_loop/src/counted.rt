@@ -29,6 +29,7 @@ fn count(counters: &mut Counters, entry: &LogEntry<'_>) {
         LogEntry::Refused { refusal, .. } => count_refused(counters, refusal.status()),
         LogEntry::Ended { cause, .. } => count_ended(counters, *cause),
         LogEntry::Evicted { .. } => count_ended(counters, EndCause::Ended),
+        LogEntry::Rejected { .. } => counters.rejected = next(counters.rejected),
         LogEntry::OutOfMemory => counters.count_shed(),
     }
 }
@@ -36,6 +37,7 @@ fn count(counters: &mut Counters, entry: &LogEntry<'_>) {
 fn count_refused(counters: &mut Counters, status: u16) {
     let refused = &mut counters.refused;
     match status {
+        403 => refused.forbidden = next(refused.forbidden),
         404 => refused.not_found = next(refused.not_found),
         405 => refused.method = next(refused.method),
         426 => refused.upgrade = next(refused.upgrade),
@@ -54,6 +56,7 @@ fn count_ended(counters: &mut Counters, cause: EndCause) {
         EndCause::Stream => ended.stream = next(ended.stream),
         EndCause::Memory => ended.memory = next(ended.memory),
         EndCause::Full => ended.full = next(ended.full),
+        EndCause::Slow => ended.slow = next(ended.slow),
         EndCause::Silent => ended.silent = next(ended.silent),
         EndCause::Ended => ended.relay = next(ended.relay),
         EndCause::Refused(status) => count_refused(counters, status),

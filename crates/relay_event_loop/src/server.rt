@@ -1,8 +1,8 @@
 //! The relay as a server: one thread that serves non-blocking sockets in rounds.
-ghost use Rattle.std.specs.Prelude.{◌≡◌, ◌≤◌, [], false};
+ghost use Rattle.std.specs.Prelude.{◌≡◌, ◌≤◌, ◌-◌, ◌^◌, [], false};
 ghost use Rattle.relay_event_loop.specs.Advances.{KeepsFewer};
 ghost use Rattle.relay_event_loop.specs.Connections.{connections_of, limit_of, hub_of};
-ghost use Rattle.relay_event_loop.specs.Connections.{entrance_of};
+ghost use Rattle.relay_event_loop.specs.Connections.{entrance_of, origins_of, peer_limit_of};
 ghost use Rattle.relay_event_loop.specs.Connections.{connection_limit, made_by, made_after};
 ghost use Rattle.relay_event_loop.specs.Limits.{forgets_rooms, output_limit_of};
 ghost use Rattle.relay_event_loop.specs.Limits.{read_ahead_limits, rooms_of};
@@ -28,7 +28,7 @@ use crate::wanted_rooms::WantedRooms;
 use forgetting::RoomVacancies;
 use indexmap::IndexMap;
 use relay_hub::{Hub, HubConfig};
-use relay_link::Entrance;
+use relay_link::{EntryRules, Watchers};
 use relay_operator::{Readiness, ReadyEvent};
 use relay_schedule::{OutputTotal, Queues, ReadAheadByRoom, ReadAheadLimits};
 use relay_tree::Budget;
@@ -73,12 +73,14 @@ pub fn connection_limit(sessions: u64) -> usize
 pub struct Server<S: Write + Drop, R> {
     hub: Hub,
     connections: Slab<Connection<S>>,
-    /// The rooms that clients may enter.
-    entrance: Entrance,
+    /// The rules for clients that ask to come in.
+    rules: EntryRules,
     /// The rooms from which clients were turned away.
     wanted: WantedRooms,
     /// The maximum number of connections.
     max_connections: usize,
+    /// The maximum number of connections of one address.
+    max_per_peer: u64,
     readiness: R,
     events: Vec<ReadyEvent>,
     /// True if a connection may wait to be accepted.
@@ -112,9 +114,10 @@ pub struct Server<S: Write + Drop, R> {
 
 impl<S: Read + Write + OpenStream + Drop, R: Readiness<S>> Server<S, R> {
     /// A server of a hub, with no connection. A room is read ahead by half as many texts as patches
-    /// may wait for a session of the hub, and by half as many bytes as these may weigh. Once its
-    /// links hold `most_output` bytes, no large snapshot is drawn; replies, patches and small
-    /// snapshots still are.
+    /// may wait for a session of the hub, and by half as many bytes as these may weigh. Its links
+    /// hold `most_output` bytes at most, and one text more each. The last quarter of that is a
+    /// reserve for the large snapshots of links that keep up; replies, patches and small snapshots
+    /// are drawn in any case. Who only watches begins no room.
     ///
     /// ```
     /// let script = ReadinessScript::new(alloc);
@@ -130,6 +133,8 @@ impl<S: Read + Write + OpenStream + Drop, R: Readiness<S>> Server<S, R> {
         ensures hub { hub_of result ≡ hub }
         ensures connected { hub.homes ≡ [] → ConnectedOf result }
         ensures entrance { entrance_of result ≡ entry.Open }
+        ensures origins { origins_of result ≡ [] }
+        ensures per_peer { peer_limit_of result ≡ 2 ^ 64 - 1 }
         ensures rooms { rooms_of result ≡ no_rooms (read_ahead_limits hub.config) }
         ensures output { output_limit_of result ≡ most_output }
         ensures forgets { forgets_rooms result ≡ false }
@@ -138,9 +143,13 @@ impl<S: Read + Write + OpenStream + Drop, R: Readiness<S>> Server<S, R> {
         Server {
             hub,
             connections: Slab::new(alloc),
-            entrance: Entrance::Open,
+            rules: EntryRules {
+                watchers: Watchers::Join,
+                ..EntryRules::none(alloc)
+            },
             wanted: WantedRooms::new(alloc),
             max_connections: connection_limit(config.sessions),
+            max_per_peer: u64::MAX,
             readiness,
             events: Vec::new(alloc),
             accept_ready: true,
@@ -182,8 +191,10 @@ impl<S: Read + Write + OpenStream + Drop, R: Readiness<S>> Server<S, R> {
     /// Runs one round. If there is no work it waits until something is ready, for at most 100 ms.
     /// Then it
     ///
-    /// - accepts up to 8 waiting connections. If [`connection_limit`] are held already, the oldest
-    ///   one without a session is ended. A connection that cannot be accepted or held is dropped;
+    /// - accepts up to 8 waiting connections. If [`connection_limit`] are held already, one without
+    ///   a session is ended: of the same address, if there is one, and of those the oldest that has
+    ///   sent nothing, or the oldest. A connection that cannot be accepted or held is dropped. One
+    ///   whose address has as many as it may is rejected: it is closed ([`Server::set_per_peer`]);
     /// - reads: each connection that has credit, may have input, has no waiting reply that can be
     ///   sent first, and whose room may be read ahead gets a read turn; the one that had its turn
     ///   last comes last. The turn passes at most one text to the hub, and draws one message, which
@@ -215,11 +226,17 @@ impl<S: Read + Write + OpenStream + Drop, R: Readiness<S>> Server<S, R> {
     /// it read, or for the frame of one that it drew. Links that are gone are dropped. If it is
     /// unknown what is ready, everything counts as ready.
     ///
-    /// Once the links hold as much output as they may, no snapshot of a document that weighs more
-    /// than 4,096 is drawn. A link's buffer never shrinks. So while that much is held, up to 64
-    /// links are ended each second, the largest buffer first: links that hold at least the average
-    /// of all links, and that have sent everything, or whose stream took less than a sixteenth of
-    /// what waited in 30 seconds. It stops once half of the limit is free.
+    /// A link whose stream takes less than a sixteenth of what waits in 30 seconds is ended. While
+    /// the links hold three quarters of the output that they may, a snapshot of a document that
+    /// weighs more than 4,096 is drawn only for those that keep up: less than 64 KiB of theirs is
+    /// unsent. At the limit none is drawn. A link's buffer never shrinks. So while three quarters
+    /// are held, up to 64 links are ended each second, the largest buffer first, of those that hold
+    /// at least the average of all: links whose stream took less than a sixteenth in two seconds,
+    /// and if there is none, links that have sent everything. It stops once half of the limit is
+    /// free.
+    ///
+    /// A session that only watches is opened in a room that is there, and as long as less than
+    /// three quarters of the sessions are open that may be.
     ///
     /// Proved of a round: the hub changes by turns, visits, wills, forgetting and
     /// [`relay_hub::Hub::shed`] alone, and goes on standing for its log (`rounds`); one round is

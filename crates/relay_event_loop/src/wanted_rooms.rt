@@ -2,13 +2,17 @@
 use std::alloc::Global;
 
 /// The maximum number of names that are kept.
-const MAX_WANTED: usize = 64;
+const MAX_WANTED: usize = 512;
 
-/// The names of rooms from which clients were turned away, each once, the oldest first. A new one
-/// takes the place of the oldest.
+/// The names of rooms from which clients were turned away, each once: first those from which one
+/// was turned away again, then the others, each the oldest first. A new name takes the place of the
+/// oldest one that was asked for once, so that made-up names do not take that of a client which
+/// waits and asks again.
 #[derive(Drop)]
 pub(crate) struct WantedRooms {
     names: Vec<String>,
+    /// The number of names that were asked for more than once.
+    again: usize,
 }
 
 impl WantedRooms {
@@ -16,6 +20,7 @@ impl WantedRooms {
     pub(crate) fn new(alloc: Global) -> WantedRooms {
         WantedRooms {
             names: Vec::new(alloc),
+            again: 0,
         }
     }
 
@@ -25,27 +30,61 @@ impl WantedRooms {
         let Some(room) = turned_away else {
             return;
         };
-        if self.names.iter().any(|name| name.as_str() == room.as_str()) {
-            return;
+        match self.position(room.as_str()) {
+            Some(index) => self.note_again(index),
+            None => self.note_first(room),
         }
-        if self.names.len() >= MAX_WANTED {
-            let _ = self.names.remove(0);
-        }
-        let _ = self.names.push(room);
     }
 
     /// Drops a name, since clients may enter now.
     pub(crate) fn remove(&mut self, room: &str) {
-        self.names.retain(|name| name.as_str() != room);
+        if let Some(index) = self.position(room) {
+            self.remove_at(index);
+        }
     }
 
     /// Drops all names.
     pub(crate) fn clear(&mut self) {
         self.names.clear();
+        self.again = 0;
     }
 
-    /// The names, the oldest first.
+    /// The names.
     pub(crate) fn as_slice(&self) -> &[String] {
         self.names.as_slice()
+    }
+
+    fn position(&self, room: &str) -> Option<usize> {
+        self.names.iter().position(|name| name.as_str() == room)
+    }
+
+    /// Notes a name that is not there yet.
+    fn note_first(&mut self, room: String) {
+        if self.names.len() >= MAX_WANTED {
+            let first = if self.again < self.names.len() {
+                self.again
+            } else {
+                0
+            };
+            self.remove_at(first);
+        }
+        let _ = self.names.push(room);
+    }
+
+    /// Notes that the name at an index was asked for again.
+    fn note_again(&mut self, index: usize) {
+        if index >= self.again && index < self.names.len() {
+            self.names.as_mut_slice()[self.again..=index].rotate_right(1);
+            self.again += 1;
+        }
+    }
+
+    fn remove_at(&mut self, index: usize) {
+        if index < self.names.len() {
+            let _ = self.names.remove(index);
+            if index < self.again {
+                self.again -= 1;
+            }
+        }
     }
 }

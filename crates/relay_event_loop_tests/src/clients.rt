@@ -212,6 +212,8 @@ impl<'a> Clients<'a> {
             "forget-rooms" => self.forget_rooms(),
             "closed" => self.set_entrance(Entrance::closed(alloc)),
             "opened" => self.set_entrance(Entrance::Open),
+            "per-peer" => self.set_per_peer(number(rest)?),
+            "only" => self.set_origin(alloc, rest),
             "arrive" => self.arrive(alloc, rest),
             "enter" => self.enter(alloc, rest),
             "each" => self.each(alloc, cut(rest)),
@@ -247,6 +249,18 @@ impl<'a> Clients<'a> {
 
     fn set_entrance(&mut self, entrance: Entrance) -> Option<()> {
         self.server.server.set_entrance(entrance);
+        Some(())
+    }
+
+    fn set_per_peer(&mut self, most: u64) -> Option<()> {
+        self.server.server.set_per_peer(most);
+        Some(())
+    }
+
+    fn set_origin(&mut self, alloc: Global, origin: &str) -> Option<()> {
+        let mut origins = Vec::new(alloc);
+        origins.push(String::from_str(alloc, origin).ok()?).ok()?;
+        self.server.server.set_origins(origins);
         Some(())
     }
 

@@ -3,7 +3,7 @@
 use crate::clients::play_anew;
 
 const ROWS: &str = r#"
-# A link takes nothing of 1.2 MB. Another one in a room of a large document has its replies, and its snapshot once the first is ended, after 30 seconds.
+# A link takes nothing of 1.2 MB. Another one in a room of a large document has its replies, and its snapshot once the first is ended, after two seconds.
 each 3 enter
 send 2 stretches 200000 {"do":"edit","id":1,"patch":[{"op":"add","path":"","value":"*"}]}
 rounds 3
@@ -15,7 +15,7 @@ send 1 says {"do":"watch","id":1,"view":[""]}
 rounds 3
 count 1 "kind":"watching" => 1
 count 1 "kind":"snapshot" => 0
-29 second
+second
 rounds 2
 connections => 3
 send 1 says {"do":"edit","id":2,"patch":[{"op":"add","path":"","value":{}},{"op":"test","path":"","value":7}]}
@@ -28,6 +28,54 @@ connections => 2
 count 1 "kind":"snapshot" => 1
 logs cause=full => true
 sleep
+
+# A link that takes nothing of 400 KB for 30 seconds is ended, though there is room for more.
+each 3 enter
+send 2 stretches 200000 {"do":"edit","id":1,"patch":[{"op":"add","path":"","value":"*"}]}
+rounds 3
+wire 0 writes not-ready
+send 0 says {"do":"watch","id":1,"view":["",""]}
+rounds 3
+29 second
+rounds 2
+connections => 3
+logs cause=slow => false
+second
+rounds 1
+connections => 2
+logs cause=slow => true
+sleep
+
+# One that takes it within 30 seconds is not.
+each 3 enter
+send 2 stretches 200000 {"do":"edit","id":1,"patch":[{"op":"add","path":"","value":"*"}]}
+rounds 3
+wire 0 writes not-ready
+send 0 says {"do":"watch","id":1,"view":["",""]}
+rounds 3
+29 second
+wire 0 writes well
+writable 0
+rounds 2
+wire 0 writes not-ready
+29 second
+rounds 2
+connections => 3
+
+# The last quarter of the limit is for links that keep up: one link leaves 800 KB, another one is shown its 200 KB, and for a third there is no room.
+each 3 enter
+send 2 stretches 200000 {"do":"edit","id":1,"patch":[{"op":"add","path":"","value":"*"}]}
+rounds 3
+each 3 clear
+wire 0 writes not-ready
+send 0 says {"do":"watch","id":1,"view":["","","",""]}
+rounds 3
+send 1 says {"do":"watch","id":1,"view":[""]}
+rounds 3
+count 1 "kind":"snapshot" => 1
+send 2 says {"do":"watch","id":1,"view":[""]}
+rounds 3
+count 2 "kind":"snapshot" => 0
 
 # Meanwhile whoever is in a room of a small document is shown it, and a patch waits for nothing, whatever its document.
 each 3 enter

@@ -20,10 +20,10 @@ const SWITCH: &str = "HTTP/1.1 101 Switching Protocols\r\n\
      Connection: Upgrade\r\n\
      Sec-WebSocket-Accept: ";
 
-/// Of an acceptance a row wants the room, `read-only` if that is the access, and the accept value,
-/// and of a refusal the status. `s3pPLMBiTxaQ9kYGzzhZRbK+xOo=` is the accept value of the sample's
-/// key (RFC 6455, section 1.3).
-const ROWS: &str = r"
+/// Of an acceptance a row wants the room, `read-only` if that is the access, the origin if the head
+/// names one, and the accept value, and of a refusal the status. `s3pPLMBiTxaQ9kYGzzhZRbK+xOo=` is
+/// the accept value of the sample's key (RFC 6455, section 1.3).
+const ROWS: &str = r#"
 # Accepts handshakes.
 sample => a s3pPLMBiTxaQ9kYGzzhZRbK+xOo=
 with dGhlIHNhbXBsZSBub25jZQ== -> AQIDBAUGBwgJCgsMDQ4PEC== => a OfS0wDaT5NoxF2gqm7Zj2YtetzM=
@@ -47,6 +47,19 @@ with /rooms/a -> /rooms/a%2Fwatch => 404
 with /rooms/a -> /watch => 404
 with GET /rooms/a -> POST /rooms/a/watch => 405
 with /rooms/a HTTP/1.1 -> /rooms/a/watch HTTP/1.0 => 400
+
+# Names the origin, as a browser sends it or not. Two fields name none, and neither does one that is not printable ASCII.
+with Host: localhost\r\n -> Host: localhost\r\nOrigin: https://example.org\r\n => a from "https://example.org" s3pPLMBiTxaQ9kYGzzhZRbK+xOo=
+with Host: localhost\r\n -> ORIGIN:\t null \r\nHost: localhost\r\n => a from "null" s3pPLMBiTxaQ9kYGzzhZRbK+xOo=
+with Host: localhost\r\n -> Host: localhost\r\nOrigin:\r\n => a from "" s3pPLMBiTxaQ9kYGzzhZRbK+xOo=
+with Host: localhost\r\n -> Host: localhost\r\nOrigins: null\r\nSec-WebSocket-Origin: null\r\n => a s3pPLMBiTxaQ9kYGzzhZRbK+xOo=
+with /rooms/a HTTP/1.1\r\n -> /rooms/a/watch HTTP/1.1\r\nOrigin: HTTP://Example.org:81\r\n => a read-only from "HTTP://Example.org:81" s3pPLMBiTxaQ9kYGzzhZRbK+xOo=
+with Host: localhost\r\n -> Host: localhost\r\nOrigin: null\r\nOrigin: null\r\n => 400
+with Host: localhost\r\n -> Host: localhost\r\nOrigin: https://example.org\r\norigin: https://evil.example\r\n => 400
+with Host: localhost\r\n -> Host: localhost\r\nOrigin: https://exämple.org\r\n => 400
+with Host: localhost\r\n -> Host: localhost\r\nOrigin: https://a.example\thttps://b.example\r\n => 400
+with Version: 13\r\n -> Version: 8\r\nOrigin: null\r\nOrigin: null\r\n => 400
+with /rooms/a HTTP/1.1\r\n -> /other HTTP/1.1\r\nOrigin: null\r\nOrigin: null\r\n => 404
 
 # Refuses by the first check that fails.
 with GET -> POST => 405
@@ -86,9 +99,10 @@ lines 27 => 431
 # No head begins with a byte 0.
 byte-0 => 400
 
-# Refuses where there is no room.
+# Refuses a page whose origin may not enter, and whoever comes where there is no room.
+refusal-403 => 403
 refusal-503 => 503
-";
+"#;
 
 /// Handshakes: the sample, or the sample with a change.
 #[derive(Drop)]
@@ -106,6 +120,7 @@ impl<R: AllocGlobal> Subject<R> for Handshakes {
             "unfinished" => answer_to_unfinished(alloc, number(rest)?),
             "lines" => answer_with_lines(alloc, number(rest)?),
             "byte-0" => answer_to(alloc, "\0".as_bytes()),
+            "refusal-403" => refusal_403(alloc),
             "refusal-503" => refusal_503(alloc),
             _ => None,
         }
@@ -171,23 +186,37 @@ fn answer_to(alloc: Global, bytes: &[u8]) -> Came {
         Shake::Accept {
             room,
             access,
+            origin,
             reply,
-        } => acceptance_in_words(alloc, room.as_str(), access, reply.as_slice()),
+        } => {
+            let asked = asked_in_words(alloc, room.as_str(), access, origin.as_deref())?;
+            acceptance_in_words(alloc, asked.as_str(), reply.as_slice())
+        }
         Shake::Refuse { status, reply } => refusal_in_words(alloc, status, reply.as_slice()),
     }
 }
 
 const MORE: &str = "more";
 
-/// An acceptance, as text: the room, the access if it is `read-only`, and the accept value, if the
-/// rest of the reply is as it should be.
-fn acceptance_in_words(alloc: Global, room: &str, access: Access, reply: &[u8]) -> Came {
+/// The request of an accepted head, as text: the room, the access if it is `read-only`, and the
+/// origin if the head names one.
+fn asked_in_words(alloc: Global, room: &str, access: Access, origin: Option<&str>) -> Came {
+    let access = match access {
+        Access::ReadWrite => "",
+        Access::ReadOnly => " read-only",
+    };
+    match origin {
+        Some(origin) => format!(in alloc; "{room}{access} from {origin:?}").ok(),
+        None => format!(in alloc; "{room}{access}").ok(),
+    }
+}
+
+/// An acceptance, as text: what was asked for, and the accept value, if the rest of the reply is as
+/// it should be.
+fn acceptance_in_words(alloc: Global, asked: &str, reply: &[u8]) -> Came {
     let reply = String::from_utf8_lossy(alloc, reply).ok()?;
     let value = accept_value(reply.as_str()).unwrap_or("and another reply");
-    match access {
-        Access::ReadWrite => format!(in alloc; "{room} {value}").ok(),
-        Access::ReadOnly => format!(in alloc; "{room} read-only {value}").ok(),
-    }
+    format!(in alloc; "{asked} {value}").ok()
 }
 
 fn accept_value(reply: &str) -> Option<&str> {
@@ -204,6 +233,12 @@ fn refusal_in_words(alloc: Global, status: u16, reply: &[u8]) -> Came {
     }
 }
 
+/// The refusal of a page whose origin may not enter, as text.
+fn refusal_403(alloc: Global) -> Came {
+    let reply = refusal(alloc, 403).ok()?;
+    refusal_in_words(alloc, 403, reply.as_slice())
+}
+
 /// The refusal of those for whom there is no room, as text.
 fn refusal_503(alloc: Global) -> Came {
     let reply = refusal(alloc, 503).ok()?;
@@ -213,6 +248,7 @@ fn refusal_503(alloc: Global) -> Came {
 /// The bytes of a refusal with this status.
 fn refused(status: u16) -> &'static str {
     match status {
+        403 => "HTTP/1.1 403 Forbidden\r\nContent-Length: 0\r\nConnection: close\r\n\r\n",
         404 => "HTTP/1.1 404 Not Found\r\nContent-Length: 0\r\nConnection: close\r\n\r\n",
         405 => {
             "HTTP/1.1 405 Method Not Allowed\r\n\

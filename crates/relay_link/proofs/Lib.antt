@@ -5,6 +5,7 @@ pub mod SocketErrors
 pub mod Framing
 pub mod Hearing
 pub mod Replying
+pub mod Denying
 pub mod Terms
 pub mod Telling
 pub mod Sending

@@ -3,12 +3,11 @@ use Rattle.std.proofs.Common.{◌≡◌, ℕ, List, [], Option, ◌⊎◌, inl, 
 use Rattle.relay_hub.specs.State.{State as Hub}
 use Rattle.relay_hub.specs.declared.event.Event.{Event}
 use Rattle.relay_link.specs.Asks.{asked_by}
+use Rattle.relay_link.specs.EntryRules.{Denials, none_denied}
 use Rattle.relay_link.specs.Follows.{Follows, at, drawn}
 use Rattle.relay_link.specs.Replies.{Replies}
 use Rattle.relay_link.specs.Stage.{stage_of, session_of}
 use Rattle.relay_link.specs.Tells.{Told, Answered, WhileOpen}
-use Rattle.relay_link.specs.declared.entrance.Entrance.{Entrance}
-use Rattle.relay_link.specs.declared.entrance.Entrance.TheVariants as entry
 use Rattle.relay_link.specs.declared.stage.Stage.TheVariants as stage
 use Rattle.relay_link.specs.declared.state.State.{State as Link}
 use Rattle.relay_link.specs.declared.state.State.TheVariants.{Head, Replying, Open, Closing, Gone}
@@ -29,49 +28,49 @@ module _ {S : Type 0} (remaining contents : S → Option (List ℕ)) (hub next :
       ⊎ WhileOpen (Answered remaining contents) hub [] was next events is
 
   -- a turn that does not both find and leave its link open gives its stream a reply alone
-  module _ {was is : Link S} (entrance : Entrance)
-      (replies : Replies remaining contents entrance was is) where
+  module _ {was is : Link S} (denied : Denials)
+      (replies : Replies remaining contents denied was is) where
     unframed : (texts : List (List ℕ)) → FramesIn remaining contents hub was events is texts
         → Sends remaining contents hub was events is texts
-    unframed texts frames = record { entrance = entrance; replies = replies; frames = frames }
+    unframed texts frames = record { denied = denied; replies = replies; frames = frames }
 
   -- for an open link the answers are those by which its texts were framed
-  pub sending_by : (was is : Link S) (entrance : Entrance)
+  pub sending_by : (was is : Link S) (denied : Denials)
       → Follows (asked_by remaining was) (at hub (session_of was) [])
       (at next (session_of is) events)
-      → Framed was is → Replies remaining contents entrance was is → SendingBy was is
-  sending_by (Open old s) (Open new t) entrance follows (inl told) replies = record {
+      → Framed was is → Replies remaining contents denied was is → SendingBy was is
+  sending_by (Open old s) (Open new t) denied follows (inl told) replies = record {
     follows = told.follows;
     sends = record {
-      entrance = entrance;
+      denied = denied;
       replies = replies;
       frames = writes told.framed;
     };
   }
-  sending_by (Open old s) (Open new t) entrance follows (inr answered) replies = record {
+  sending_by (Open old s) (Open new t) denied follows (inr answered) replies = record {
     follows = answered.told.follows;
     sends = record {
-      entrance = entrance;
+      denied = denied;
       replies = replies;
       frames = reads answered.heard answered.reads answered.told.framed;
     };
   }
-  sending_by (Open old s) (Head stream bytes) entrance follows framed replies =
-      record { follows = follows; sends = unframed entrance replies (drawn follows) tt }
-  sending_by (Open old s) (Replying stream reply) entrance follows framed replies =
-      record { follows = follows; sends = unframed entrance replies (drawn follows) tt }
-  sending_by (Open old s) (Closing socket left) entrance follows framed replies =
-      record { follows = follows; sends = unframed entrance replies (drawn follows) tt }
-  sending_by (Open old s) Gone entrance follows framed replies =
-      record { follows = follows; sends = unframed entrance replies (drawn follows) tt }
-  sending_by (Head stream bytes) is entrance follows framed replies =
-      record { follows = follows; sends = unframed entrance replies (drawn follows) tt }
-  sending_by (Replying stream reply) is entrance follows framed replies =
-      record { follows = follows; sends = unframed entrance replies (drawn follows) tt }
-  sending_by (Closing socket left) is entrance follows framed replies =
-      record { follows = follows; sends = unframed entrance replies (drawn follows) tt }
-  sending_by Gone is entrance follows framed replies =
-      record { follows = follows; sends = unframed entrance replies (drawn follows) tt }
+  sending_by (Open old s) (Head stream bytes) denied follows framed replies =
+      record { follows = follows; sends = unframed denied replies (drawn follows) tt }
+  sending_by (Open old s) (Replying stream reply) denied follows framed replies =
+      record { follows = follows; sends = unframed denied replies (drawn follows) tt }
+  sending_by (Open old s) (Closing socket left) denied follows framed replies =
+      record { follows = follows; sends = unframed denied replies (drawn follows) tt }
+  sending_by (Open old s) Gone denied follows framed replies =
+      record { follows = follows; sends = unframed denied replies (drawn follows) tt }
+  sending_by (Head stream bytes) is denied follows framed replies =
+      record { follows = follows; sends = unframed denied replies (drawn follows) tt }
+  sending_by (Replying stream reply) is denied follows framed replies =
+      record { follows = follows; sends = unframed denied replies (drawn follows) tt }
+  sending_by (Closing socket left) is denied follows framed replies =
+      record { follows = follows; sends = unframed denied replies (drawn follows) tt }
+  sending_by Gone is denied follows framed replies =
+      record { follows = follows; sends = unframed denied replies (drawn follows) tt }
 
   -- a link that is gone has no stream to speak of
   pub gone_framed : (was is : Link S) → stage_of is ≡ stage.Gone → Framed was is
@@ -85,7 +84,7 @@ module _ {S : Type 0} (remaining contents : S → Option (List ℕ)) (hub next :
   gone_framed (Closing socket left) is gone = inl tt
   gone_framed Gone is gone = inl tt
 
-  replies_gone : (was : Link S) → Replies remaining contents entry.Open was Gone
+  replies_gone : (was : Link S) → Replies remaining contents none_denied was Gone
   replies_gone (Head stream bytes) = tt
   replies_gone (Replying stream reply) = tt
   replies_gone (Open socket s) = tt
@@ -93,7 +92,7 @@ module _ {S : Type 0} (remaining contents : S → Option (List ℕ)) (hub next :
   replies_gone Gone = tt
 
   pub gone_replies : (was is : Link S) → stage_of is ≡ stage.Gone
-      → Replies remaining contents entry.Open was is
+      → Replies remaining contents none_denied was is
   gone_replies was (Head stream bytes) gone = absurd (cc gone)
   gone_replies was (Replying stream reply) gone = absurd (cc gone)
   gone_replies was (Open socket s) gone = absurd (cc gone)

@@ -13,7 +13,7 @@ use Rattle.relay_link.specs.declared.state.State.{State}
 use Rattle.relay_link.specs.declared.state.State.TheVariants.{Head}
 
 abbrev pub accepted : Shake → Option (List ℕ × Access)
-accepted (Accept room access reply) = Some (string_bytes room, access)
+accepted (Accept room access origin reply) = Some (string_bytes room, access)
 accepted _ = None
 
 -- by the definition of the handshake, the answer to these bytes accepts a head that asks for that

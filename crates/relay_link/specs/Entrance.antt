@@ -1,10 +1,7 @@
--- In which rooms clients may enter, and what those are told who may not.
-use Rattle.std.specs.Prelude.{◌≡◌, ℕ, ◌==◌, ◌&&◌, nat_le, not, length, Bool, true, false, List}
+-- In which rooms clients may enter.
+use Rattle.std.specs.Prelude.{ℕ, ◌==◌, ◌&&◌, nat_le, not, length, Bool, true, false, List}
 use Rattle.std.specs.Prelude.{bytes_eq, string_bytes}
 use Rattle.std.specs.List.{list_any}
-use Rattle.relay_access.specs.declared.access.Access.{Access}
-use Rattle.relay_shake.specs.Replies.{closed_refusal, refusal_of}
-use Rattle.relay_link.specs.Follows.{Rooms}
 use Rattle.relay_link.specs.declared.entrance.Entrance.{Entrance}
 use Rattle.relay_link.specs.declared.entrance.Entrance.TheVariants.{Open, Only}
 
@@ -12,10 +9,6 @@ use Rattle.relay_link.specs.declared.entrance.Entrance.TheVariants.{Open, Only}
 abbrev pub lets_in : Entrance → List ℕ → Bool
 lets_in Open room = true
 lets_in (Only names) room = list_any (λ name. bytes_eq room (string_bytes name)) names.keys
-
--- the rooms in which they may
-abbrev pub Within : Entrance → Rooms
-Within entrance room access = lets_in entrance room ≡ true
 
 -- whether they may enter none
 abbrev pub is_closed : Entrance → Bool
@@ -27,8 +20,3 @@ abbrev pub is_full : Entrance → List ℕ → ℕ → Bool
 is_full Open room most = false
 is_full (Only names) room most =
     not (lets_in (Only names) room) && nat_le most (length names.keys)
-
--- the reply to a good head for which no session was opened, whether or not clients may enter there
-abbrev pub unserved_reply : Bool → List ℕ
-unserved_reply true = refusal_of 503
-unserved_reply false = closed_refusal

@@ -7,6 +7,7 @@ pub mod Entrance
 pub mod SocketError
 pub mod Turns
 pub mod Ends
+pub mod EntryRules
 pub mod Terms
 pub mod Hears
 pub mod Frames

@@ -4,10 +4,10 @@ use Rattle.std.specs.Prelude.{⊤, ℕ, List, [], Option, Some}
 use Rattle.tungstenite.specs.Socket.{Socket}
 use Rattle.relay_hub.specs.State.{State as Hub}
 use Rattle.relay_hub.specs.declared.event.Event.{Event}
+use Rattle.relay_link.specs.EntryRules.{Denials}
 use Rattle.relay_link.specs.Replies.{Replies}
 use Rattle.relay_link.specs.Tells.{FramesTexts, ReadsFirst}
 use Rattle.relay_link.specs.declared.corked_writer.CorkedWriter.{CorkedWriter}
-use Rattle.relay_link.specs.declared.entrance.Entrance.{Entrance}
 use Rattle.relay_link.specs.declared.state.State.{State}
 use Rattle.relay_link.specs.declared.state.State.TheVariants.{Open}
 
@@ -34,6 +34,6 @@ module _ {S : Type 0} where
   -- texts.
   pub record Sends (remaining contents : S → Option (List ℕ)) (hub : Hub) (was : State S)
       (events : List Event) (is : State S) (texts : List (List ℕ)) : Type 0 where
-    pub entrance : Entrance
-    pub replies : Replies remaining contents entrance was is
+    pub denied : Denials
+    pub replies : Replies remaining contents denied was is
     pub frames : FramesIn remaining contents hub was events is texts

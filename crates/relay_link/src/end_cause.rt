@@ -29,6 +29,8 @@ pub enum EndCause {
     /// The server's links held too much output, and this one was ended to free some. (A full output
     /// buffer of the socket has this cause too; that does not occur.)
     Full,
+    /// The other side took its output too slowly. (A server's rounds end such links.)
+    Slow,
     /// The other side did not answer a close frame.
     Silent,
     /// The link was ended from this side.

@@ -1,4 +1,5 @@
 //! The events of a turn, in a buffer that is allocated before the turn begins.
+use crate::entry_rules::Denial;
 use relay_hub::{Event, OpenFault};
 use std::alloc::{AllocError, Global};
 use std::cell::Cell;
@@ -94,11 +95,15 @@ impl EventLog {
         self.room_index.get()
     }
 
-    /// Notes the room in which a client may not enter. Allocates nothing.
-    pub(crate) fn note_turned_away(&mut self, room: String)
+    /// Notes that a client may not enter in a room, and why. Allocates nothing.
+    pub(crate) fn note_denial(&mut self, reason: Denial, room: String)
         ensures { self.new ≡ self.old }
     {
-        self.turned_away = Some(room);
+        match reason {
+            Denial::Closed => self.turned_away = Some(room),
+            Denial::Full => self.note_fault(OpenFault::SessionsFull),
+            Denial::Origin | Denial::NoRoom => {}
+        }
     }
 
     /// Takes the room in which a client may not enter, if it asked for one.

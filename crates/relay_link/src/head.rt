@@ -1,20 +1,20 @@
 //! The handshake of a link: its request head, then the reply.
 ghost use Rattle.std.specs.Prelude.{◌≡◌, ◌≢◌, ◌+◌, ◌≤◌, length, [], is_some, Some, None};
-ghost use Rattle.std.specs.Prelude.{string_bytes, true, false};
+ghost use Rattle.std.specs.Prelude.{string_bytes, option_map, Option, false};
+ghost use Rattle.std.specs.Global.{Global};
+ghost use Rattle.std.specs.declared.string.String.{String};
 ghost use Rattle.relay_link.specs.Adds.{Adds};
 ghost use Rattle.relay_link.specs.Asks.{Asks, Receives, awaits_head};
-ghost use Rattle.relay_link.specs.Entrance.{lets_in, Within};
+ghost use Rattle.relay_link.specs.EntryRules.{Denials, Within, denial, reply_to, status_of};
 ghost use Rattle.relay_link.specs.Ends.{turns_left};
 ghost use Rattle.relay_link.specs.Follows.{Follows, no_opening, is_room, at};
 ghost use Rattle.relay_link.specs.Stage.{entered, leaves, stage_of, session_of, IsSound};
 ghost use Rattle.relay_link.specs.Hears.{Passes};
 ghost use Rattle.relay_link.specs.Replies.{Replies, RepliesTo, WritesReply};
 ghost use Rattle.relay_link.specs.Stream.{stream_of, written};
-ghost use Rattle.relay_shake.specs.Replies.{closed_refusal};
 ghost use Rattle.relay_shake.specs.declared.answer.Shake.TheVariants.{Accept};
 ghost use Rattle.relay_link.specs.Tells.{IsServing};
 ghost use Rattle.relay_link.specs.declared.end_cause.EndCause.TheVariants.{Silent};
-ghost use Rattle.relay_link.specs.declared.entrance.Entrance.{Entrance};
 ghost use Rattle.relay_link.specs.declared.handshake_reply.Verdict.TheVariants.{Refused};
 ghost use Rattle.relay_link.specs.declared.closing.TheConstants.{MAX_TURNS};
 ghost use Rattle.relay_link.specs.declared.event_log.TheConstants.{MAX_EVENTS};
@@ -22,7 +22,7 @@ ghost use Rattle.relay_link.specs.declared.stage.Stage.TheVariants.{Head};
 
 use crate::corked_writer::CorkedWriter;
 use crate::end_cause::EndCause;
-use crate::entrance::Entrance;
+use crate::entry_rules::{Denial, EntryRules};
 use crate::event_log::EventLog;
 use crate::events;
 use crate::handshake_reply::{HandshakeReply, Verdict};
@@ -32,7 +32,7 @@ use crate::state::State;
 use crate::transition::Transition;
 use relay_access::Access;
 use relay_hub::Hub;
-use relay_shake::{Shake, closed_refusal, refusal, shake};
+use relay_shake::{Shake, refusal, shake};
 use std::alloc::Global;
 use std::io::{Read, Write};
 
@@ -45,7 +45,7 @@ pub(crate) fn listen<S: Read + Write + Drop>(
     alloc: Global,
     mut stream: CorkedWriter<S>,
     mut bytes: Vec<u8>,
-    entrance: &Entrance,
+    rules: &EntryRules,
     hub: &mut Hub,
     events: &mut EventLog,
 ) -> Transition<S>
@@ -53,10 +53,10 @@ pub(crate) fn listen<S: Read + Write + Drop>(
     ensures follows { Follows (Asks bytes.items (S.remaining (stream_of stream)))
         (at hub.old None events.old) (at hub.new (session_of result.state) events.new) }
     ensures received { Receives S.remaining (State.Head stream bytes) result.state }
-    ensures entrance { Follows (Within entrance.now) (at hub.old None events.old)
+    ensures entrance { Follows (Within rules.now hub.old) (at hub.old None events.old)
         (at hub.new (session_of result.state) events.new) }
-    ensures replies { Replies S.remaining S.contents entrance.now (State.Head stream bytes)
-        result.state }
+    ensures replies { Replies S.remaining S.contents (denial rules.now hub.old)
+        (State.Head stream bytes) result.state }
     ensures passes { Passes events.old events.new [] }
     ensures adds { Adds 2 0 0 events.old events.new }
     ensures serving { IsServing result.state }
@@ -88,15 +88,13 @@ pub(crate) fn listen<S: Read + Write + Drop>(
             Shake::Accept {
                 room,
                 access,
+                origin,
                 reply,
             },
-        ) => {
-            if entrance.lets_in(room.as_str()) {
-                admit(alloc, stream, room, access, reply, hub, events)
-            } else {
-                turn_away(alloc, stream, room, hub, events)
-            }
-        }
+        ) => match rules.denial(hub, room.as_str(), access, origin.as_deref()) {
+            None => admit(alloc, stream, room, access, reply, hub, events),
+            Some(reason) => turn_away(alloc, stream, room, reason, hub, events),
+        },
         Ok(Shake::Refuse { status, reply }) => {
             answer(alloc, stream, reply, Verdict::Refused(status), hub, events)
         }
@@ -120,9 +118,10 @@ fn admit<S: Read + Write + Drop>(
     ensures follows { Follows (is_room (string_bytes room) access) (at hub.old None events.old)
         (at hub.new (session_of result.state) events.new) }
     ensures past { awaits_head result.state ≡ false }
-    ensures replies { (entrance : Entrance) → lets_in entrance (string_bytes room) ≡ true →
-        RepliesTo S.contents entrance (written S.contents stream) (Accept room access accepted)
-        result.state }
+    ensures replies { (denied : Denials) (origin : Option (String Global))
+        → denied (string_bytes room) access (option_map string_bytes origin) ≡ None
+        → RepliesTo S.contents denied (written S.contents stream)
+        (Accept room access origin accepted) result.state }
     ensures passes { Passes events.old events.new [] }
     ensures adds { Adds 2 0 0 events.old events.new }
     ensures serving { IsServing result.state }
@@ -148,12 +147,13 @@ fn admit<S: Read + Write + Drop>(
     }
 }
 
-/// Begins to write the refusal of a good handshake for a room in which clients may not enter.
+/// Begins to write the refusal of a good handshake that the rules deny.
 #[tactic(auto, using(crate::proofs::Following::follows_same, crate::proofs::Hearing::passes_same))]
 fn turn_away<S: Read + Write + Drop>(
     alloc: Global,
     stream: CorkedWriter<S>,
     room: String,
+    reason: Denial,
     hub: &mut Hub,
     events: &mut EventLog,
 ) -> Transition<S>
@@ -161,8 +161,8 @@ fn turn_away<S: Read + Write + Drop>(
     ensures follows { Follows no_opening (at hub.old None events.old)
         (at hub.new (session_of result.state) events.new) }
     ensures past { awaits_head result.state ≡ false }
-    ensures writes { WritesReply S.contents (written S.contents stream) (Refused 503)
-        closed_refusal result.state }
+    ensures writes { WritesReply S.contents (written S.contents stream)
+        (Refused (status_of reason)) (reply_to reason) result.state }
     ensures passes { Passes events.old events.new [] }
     ensures adds { Adds 1 0 0 events.old events.new }
     ensures serving { IsServing result.state }
@@ -172,9 +172,12 @@ fn turn_away<S: Read + Write + Drop>(
     ensures sound { IsSound result.state }
     ensures patient { MAX_TURNS ≤ turns_left result.state }
 {
-    events.note_turned_away(room);
-    match closed_refusal(alloc) {
-        Ok(refused) => answer(alloc, stream, refused, Verdict::Refused(503), hub, events),
+    events.note_denial(reason, room);
+    match reason.reply(alloc) {
+        Ok(refused) => {
+            let verdict = Verdict::Refused(reason.status());
+            answer(alloc, stream, refused, verdict, hub, events)
+        }
         Err(_) => Transition::gone(EndCause::Memory),
     }
 }

@@ -5,7 +5,7 @@ ghost use Rattle.relay_link.specs.Adds.{Adds, texts_of};
 ghost use Rattle.relay_link.specs.Asks.{asked_by, IsFresh, Receives};
 ghost use Rattle.relay_link.specs.BinaryAnswered.{BinaryAnsweredIfOpen};
 ghost use Rattle.relay_link.specs.Ends.{turns_left};
-ghost use Rattle.relay_link.specs.Entrance.{Within};
+ghost use Rattle.relay_link.specs.EntryRules.{Within, denial, none_denied};
 ghost use Rattle.relay_link.specs.Follows.{Follows, no_opening, at, closing_of};
 ghost use Rattle.relay_link.specs.Hears.{PassesTexts};
 ghost use Rattle.relay_link.specs.Replies.{Replies};
@@ -15,13 +15,12 @@ ghost use Rattle.relay_link.specs.Stops.{StopsIfOpen};
 ghost use Rattle.relay_link.specs.Tells.{IsServing, Talks, WhileOpen, Told, Answered};
 ghost use Rattle.relay_link.specs.Turns.{Turns};
 ghost use Rattle.relay_link.specs.declared.end_cause.EndCause.TheVariants.{Silent};
-ghost use Rattle.relay_link.specs.declared.entrance.Entrance.TheVariants as entry;
 ghost use Rattle.relay_link.specs.declared.event_log.TheConstants.{MAX_EVENTS};
 ghost use Rattle.relay_link.specs.declared.stage.Stage.TheVariants.{Head, Closing, Gone};
 
 use crate::corked_writer::CorkedWriter;
 use crate::end_cause::EndCause;
-use crate::entrance::Entrance;
+use crate::entry_rules::EntryRules;
 use crate::event_log::EventLog;
 use crate::socket::close;
 use crate::stage::Stage;
@@ -160,7 +159,7 @@ impl<S: Read + Write + Drop> Link<S> {
     /// wire.try_borrow_mut().ok()?.perform(alloc, "asks 13 /rooms/a").ok()?;
     /// link.turn(alloc, &mut hub, MAX_DRAWS).ok()?;
     /// // The turn draws the welcome.
-    /// link.read_turn(alloc, &Entrance::Open, &mut hub, MAX_DRAWS).ok()?;
+    /// link.read_turn(alloc, &EntryRules::none(alloc), &mut hub, MAX_DRAWS).ok()?;
     /// assert!(rt; link.has_corked_output());
     /// ```
     pub fn has_corked_output(&self) -> bool
@@ -223,29 +222,31 @@ impl<S: Read + Write + Drop> Link<S> {
             WhileOpen (Answered S.remaining S.contents) hub.old [] self.old
             hub.new turn.events.items self.new) }
         ensures replies { OnOk result
-            (Replies S.remaining S.contents entry.Open self.old self.new) }
+            (Replies S.remaining S.contents none_denied self.old self.new) }
         ensures binary { IfOk result
             (λ turn. BinaryAnsweredIfOpen S.contents self.old self.new turn.cause) }
         ensures forward { IsForward (stage_of self.old) (stage_of self.new) }
         ensures unchanged { OnErr result (self.new ≡ self.old) }
         ensures hub_unchanged { OnErr result (hub.new ≡ hub.old) }
     {
-        self.take_turn(alloc, TurnPhase::Both, &Entrance::Open, hub, draws)
+        self.take_turn(alloc, TurnPhase::Both, &EntryRules::none(alloc), hub, draws)
     }
 
     /// Runs the read part of a turn, for a link that reads more than once before it writes. As
     /// [`Link::turn`], but up to 640 bytes of an open link's output are corked until
-    /// [`Link::write_turn`]. A link that ends sends its output first. A valid handshake for a room
-    /// that `entrance` does not let clients into opens no session: the reply is 503, with
-    /// `Retry-After: 1`. A link that has a session is heard as ever.
+    /// [`Link::write_turn`]. A link that ends sends its output first. A valid handshake that the
+    /// rules deny opens no session, and the reply says why: 403 to a page of another origin; 503,
+    /// with `Retry-After: 1`, if clients may not enter in that room yet; 404 if it would only watch
+    /// a room that is not there; 503 if it would only watch, and the places that are left are for
+    /// those who edit. A link that has a session is heard as ever.
     ///
     /// ```
     /// let wire = Wire::new(alloc);
     /// let mut hub = Hub::new(alloc, 1, 1, 64, 32).ok()?;
     /// let mut link = Link::new(alloc, End { wire: &wire }).ok()?;
     /// wire.try_borrow_mut().ok()?.perform(alloc, "asks 13 /rooms/a").ok()?;
-    /// let entrance = Entrance::closed(alloc);
-    /// let turn = link.read_turn(alloc, &entrance, &mut hub, MAX_DRAWS).ok()?;
+    /// let closed = EntryRules { entrance: Entrance::closed(alloc), ..EntryRules::none(alloc) };
+    /// let turn = link.read_turn(alloc, &closed, &mut hub, MAX_DRAWS).ok()?;
     /// assert!(rt; turn.cause == Some(EndCause::Refused(503)) && link.session() == None);
     /// assert!(rt; turn.turned_away?.as_str() == "a");
     /// ```
@@ -253,26 +254,26 @@ impl<S: Read + Write + Drop> Link<S> {
     pub fn read_turn(
         &mut self,
         alloc: Global,
-        entrance: &Entrance,
+        rules: &EntryRules,
         hub: &mut Hub,
         draws: u64,
     ) -> Result<Turn, AllocError>
         ensures turns { IfOk result (Turns S.remaining 1 draws hub.old self.old hub.new self.new) }
         ensures entrance { IfOk result (λ turn.
-            Follows (Within entrance.now) (at hub.old (session_of self.old) [])
+            Follows (Within rules.now hub.old) (at hub.old (session_of self.old) [])
             (at hub.new (session_of self.new) turn.events.items)) }
         ensures frames { IfOk result (λ turn.
             WhileOpen (Answered S.remaining S.contents) hub.old [] self.old
             hub.new turn.events.items self.new) }
         ensures replies { OnOk result
-            (Replies S.remaining S.contents entrance.now self.old self.new) }
+            (Replies S.remaining S.contents (denial rules.now hub.old) self.old self.new) }
         ensures binary { IfOk result
             (λ turn. BinaryAnsweredIfOpen S.contents self.old self.new turn.cause) }
         ensures forward { IsForward (stage_of self.old) (stage_of self.new) }
         ensures unchanged { OnErr result (self.new ≡ self.old) }
         ensures hub_unchanged { OnErr result (hub.new ≡ hub.old) }
     {
-        self.take_turn(alloc, TurnPhase::Read, entrance, hub, draws)
+        self.take_turn(alloc, TurnPhase::Read, rules, hub, draws)
     }
 
     /// Runs the write part of a turn, which reads nothing: it writes the rest of an unfinished
@@ -286,7 +287,7 @@ impl<S: Read + Write + Drop> Link<S> {
     /// let mut hub = Hub::new(alloc, 1, 1, 64, 32).ok()?;
     /// let mut link = Link::new(alloc, End { wire: &wire }).ok()?;
     /// wire.try_borrow_mut().ok()?.perform(alloc, "asks 13 /rooms/a").ok()?;
-    /// link.read_turn(alloc, &Entrance::Open, &mut hub, MAX_DRAWS).ok()?;
+    /// link.read_turn(alloc, &EntryRules::none(alloc), &mut hub, MAX_DRAWS).ok()?;
     /// let turn = link.write_turn(alloc, &mut hub, MAX_DRAWS).ok()?;
     /// // The welcome.
     /// assert!(rt; turn.has_drawn() && !turn.has_received() && hub.waiting(1) == Some(0));
@@ -301,14 +302,20 @@ impl<S: Read + Write + Drop> Link<S> {
         ensures frames { IfOk result (λ turn.
             WhileOpen (Told S.contents) hub.old [] self.old hub.new turn.events.items self.new) }
         ensures replies { OnOk result
-            (Replies S.remaining S.contents entry.Open self.old self.new) }
+            (Replies S.remaining S.contents none_denied self.old self.new) }
         ensures binary { IfOk result
             (λ turn. BinaryAnsweredIfOpen S.contents self.old self.new turn.cause) }
         ensures forward { IsForward (stage_of self.old) (stage_of self.new) }
         ensures unchanged { OnErr result (self.new ≡ self.old) }
         ensures hub_unchanged { OnErr result (hub.new ≡ hub.old) }
     {
-        self.take_turn(alloc, TurnPhase::Write, &Entrance::Open, hub, draws)
+        self.take_turn(
+            alloc,
+            TurnPhase::Write,
+            &EntryRules::none(alloc),
+            hub,
+            draws,
+        )
     }
 
     /// Ends the link: closes its session, if it has one, and leaves it Gone with
@@ -366,21 +373,21 @@ impl<S: Read + Write + Drop> Link<S> {
         &mut self,
         alloc: Global,
         phase: TurnPhase,
-        entrance: &Entrance,
+        rules: &EntryRules,
         hub: &mut Hub,
         draws: u64,
     ) -> Result<Turn, AllocError>
         ensures turns { IfOk result (Turns S.remaining (texts_of phase) draws hub.old self.old
             hub.new self.new) }
         ensures entrance { IfOk result (λ turn.
-            Follows (Within entrance.now) (at hub.old (session_of self.old) [])
+            Follows (Within rules.now hub.old) (at hub.old (session_of self.old) [])
             (at hub.new (session_of self.new) turn.events.items)) }
         ensures talks { IfOk result (λ turn.
             WhileOpen (Talks S.remaining S.contents (texts_of phase)) hub.old [] self.old hub.new
             turn.events.items self.new) }
         ensures serving { OnOk result (IsServing self.old) }
         ensures replies { OnOk result
-            (Replies S.remaining S.contents entrance.now self.old self.new) }
+            (Replies S.remaining S.contents (denial rules.now hub.old) self.old self.new) }
         ensures binary { IfOk result
             (λ turn. BinaryAnsweredIfOpen S.contents self.old self.new turn.cause) }
         ensures forward { IsForward (stage_of self.old) (stage_of self.new) }
@@ -391,7 +398,7 @@ impl<S: Read + Write + Drop> Link<S> {
         let before = hub.cost();
         let state = mem::replace(&mut self.state, State::Gone);
         let draws = draws.min(MAX_DRAWS);
-        let next = advance(alloc, state, phase, entrance, draws, hub, &mut events);
+        let next = advance(alloc, state, phase, rules, draws, hub, &mut events);
         self.state = next.state;
         Ok(Turn {
             drawn: events.drawn(),
@@ -413,7 +420,7 @@ fn advance<S: Read + Write + Drop>(
     alloc: Global,
     state: State<S>,
     phase: TurnPhase,
-    entrance: &Entrance,
+    rules: &EntryRules,
     draws: u64,
     hub: &mut Hub,
     events: &mut EventLog,
@@ -429,9 +436,9 @@ fn advance<S: Read + Write + Drop>(
     ensures stop { StopsIfOpen state result.state result.stop draws hub.new events.old events.new }
     ensures serving { IsServing result.state }
     ensures sound { IsSound state → IsSound result.state }
-    ensures entrance { Follows (Within entrance.now) (at hub.old (session_of state) events.old)
+    ensures entrance { Follows (Within rules.now hub.old) (at hub.old (session_of state) events.old)
         (at hub.new (session_of result.state) events.new) }
-    ensures replies { Replies S.remaining S.contents entrance.now state result.state }
+    ensures replies { Replies S.remaining S.contents (denial rules.now hub.old) state result.state }
     ensures binary { BinaryAnsweredIfOpen S.contents state result.state result.cause }
     ensures passes { PassesTexts S.remaining (texts_of phase) hub.old state result.state events.old
         events.new }
@@ -449,7 +456,7 @@ fn advance<S: Read + Write + Drop>(
             opened::turn(alloc, socket, session, phase, draws, hub, events)
         }
         State::Head { stream, bytes } if phase != TurnPhase::Write => {
-            head::listen(alloc, stream, bytes, entrance, hub, events)
+            head::listen(alloc, stream, bytes, rules, hub, events)
         }
         State::Closing { socket, turns } if phase != TurnPhase::Write => closing::turn(
             socket, turns,

@@ -83,6 +83,70 @@ bring closed
 bring asks 13 /rooms/a
 hear => Gone by Refused(503) > try again
 
+# Pages of another origin than those that are named may not enter. A client that names none is no page.
+bring only https://example.org
+bring asks 13 /rooms/a https://example.com
+hear => Gone by Refused(403) > forbidden
+
+bring only https://example.org
+bring only https://example.com
+bring asks 13 /rooms/a https://example.com
+hear => open a; Open as 1 > switched
+
+bring only https://example.org
+bring asks 13 /rooms/a HTTPS://example.org
+hear => Gone by Refused(403) > forbidden
+
+bring only https://example.org
+bring asks 13 /rooms/a
+hear => open a; Open as 1 > switched
+
+bring asks 13 /rooms/a null
+hear => open a; Open as 1 > switched
+
+# An origin is judged before the room is.
+bring only https://example.org
+bring closed
+bring asks 13 /rooms/a https://example.com
+hear => Gone by Refused(403) > forbidden
+
+# Who only watches begins a room, joins one that is there, or waits for a place.
+bring asks 13 /rooms/a/watch
+hear => open a read-only; Open as 1 > switched
+
+bring watchers join
+bring asks 13 /rooms/a/watch
+hear => Gone by Refused(404) > not found
+
+enter
+other
+bring watchers join
+bring asks 13 /rooms/a/watch
+hear => open a read-only; Open as 2 > switched
+
+enter
+other
+bring watchers wait
+bring asks 13 /rooms/a/watch
+hear => Gone by Refused(503) > unavailable
+
+enter
+other
+bring watchers wait
+bring asks 13 /rooms/b/watch
+hear => Gone by Refused(404) > not found
+
+# Who edits is let in as ever.
+bring watchers wait
+bring asks 13 /rooms/a
+hear => open a; Open as 1 > switched
+
+# Where clients may not enter yet, nobody is told whether there is a room.
+bring closed
+bring watchers join
+bring asks 13 /rooms/a/watch
+hear => Gone by Refused(503) > try again
+
 # A head that is refused is refused as ever.
 bring closed
 bring asks 8 /rooms/a

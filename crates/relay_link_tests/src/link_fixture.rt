@@ -2,7 +2,7 @@
 //! gives nothing, which fails the test.
 use relay_access::Access;
 use relay_hub::{Event, Hub};
-use relay_link::{Entrance, Link, MAX_DRAWS, Turn};
+use relay_link::{Entrance, EntryRules, Link, MAX_DRAWS, Turn, Watchers};
 use relay_test_stream::{End, Wire, cut, in_words};
 use std::alloc::{AllocError, Global};
 use std::cell::{RefCell, RefMut};
@@ -24,8 +24,8 @@ pub(crate) struct LinkFixture<'a> {
     wire: &'a RefCell<Wire>,
     pub link: Link<End<'a>>,
     draws: u64,
-    /// Decides whether a client may enter by a read turn.
-    entrance: Entrance,
+    /// Decide whether a client may enter by a read turn.
+    rules: EntryRules,
 }
 
 impl<'a> LinkFixture<'a> {
@@ -34,7 +34,7 @@ impl<'a> LinkFixture<'a> {
             wire,
             link: Link::new(alloc, End { wire }).ok()?,
             draws: MAX_DRAWS,
-            entrance: Entrance::Open,
+            rules: EntryRules::none(alloc),
         })
     }
 
@@ -88,7 +88,8 @@ impl<'a> LinkFixture<'a> {
     /// - `end` ends the link;
     /// - `bring ACT` does what comes before a turn; `bring closed` has no client enter by a read
     ///   turn, `bring open ROOM` and `bring close ROOM` change that for a room, and `bring opened`
-    ///   for all;
+    ///   for all; `bring only ORIGIN` has pages of other origins not enter, and `bring watchers
+    ///   join` or `wait` has those who only watch begin no room, or not enter at all;
     /// - `look` tells the stage and the session;
     /// - every other act is one of the wire, before a turn.
     fn turn(&mut self, alloc: Global, hub: &mut Hub, act: &str) -> Option<String> {
@@ -98,7 +99,7 @@ impl<'a> LinkFixture<'a> {
             "bring" => return self.brought(alloc, rest),
             "hear" => self
                 .link
-                .read_turn(alloc, &self.entrance, hub, self.draws)
+                .read_turn(alloc, &self.rules, hub, self.draws)
                 .ok()?,
             "tell" => self.link.write_turn(alloc, hub, self.draws).ok()?,
             "end" => self.link.end(alloc, hub).ok()?,
@@ -115,13 +116,21 @@ impl<'a> LinkFixture<'a> {
         match cut(act) {
             ("idle", _) => Some(()),
             ("closed", _) => {
-                self.entrance = Entrance::closed(alloc);
+                self.rules.entrance = Entrance::closed(alloc);
                 Some(())
             }
-            ("open", room) => self.entrance.admit(alloc, room, MOST_OPEN).ok(),
-            ("close", room) => self.entrance.exclude(room).ok(),
+            ("open", room) => self.rules.entrance.admit(alloc, room, MOST_OPEN).ok(),
+            ("close", room) => self.rules.entrance.exclude(room).ok(),
             ("opened", _) => {
-                self.entrance = Entrance::Open;
+                self.rules.entrance = Entrance::Open;
+                Some(())
+            }
+            ("only", origin) => {
+                let origin = String::from_str(alloc, origin).ok()?;
+                self.rules.origins.push(origin).ok()
+            }
+            ("watchers", word) => {
+                self.rules.watchers = watchers(word)?;
                 Some(())
             }
             ("draws", draws) => {
@@ -195,5 +204,14 @@ fn tell_opening(told: &mut String, room: &str, access: Access) -> Result<(), All
     match access {
         Access::ReadWrite => write!(told, "open {room}; "),
         Access::ReadOnly => write!(told, "open {room} read-only; "),
+    }
+}
+
+fn watchers(word: &str) -> Option<Watchers> {
+    match word {
+        "begin" => Some(Watchers::Begin),
+        "join" => Some(Watchers::Join),
+        "wait" => Some(Watchers::Wait),
+        _ => None,
     }
 }

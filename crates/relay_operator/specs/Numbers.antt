@@ -57,6 +57,7 @@ pub record AreNumbers (view : AdminView) (counters : Counters) (m : Metrics) : T
   pub longest_round : m.longest_round ≡ view.longest_round
   -- what is counted of its log
   pub opened : m.opened ≡ counters.opened
+  pub rejected : m.rejected ≡ counters.rejected
   pub refused : m.refused ≡ counters.refused
   pub ended : m.ended ≡ counters.ended
   pub shed : m.shed ≡ counters.shed

@@ -130,6 +130,7 @@ impl AdminView<'_> {
             history_weight: totals.history,
             waiting_weight: self.hub.waiting_weight(),
             opened: counters.opened,
+            rejected: counters.rejected,
             refused: counters.refused,
             ended: counters.ended,
             drawn: DrawnMessages {

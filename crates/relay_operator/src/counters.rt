@@ -14,6 +14,8 @@ const SHORT: u64 = 60;
 pub struct Counters {
     /// Sessions that were opened.
     pub opened: u64,
+    /// Connections that were rejected as they came.
+    pub rejected: u64,
     /// Handshakes that were refused.
     pub refused: RefusedBy,
     /// Connections that ended.
@@ -30,6 +32,7 @@ impl Counters {
     pub(crate) fn new() -> Counters {
         Counters {
             opened: 0,
+            rejected: 0,
             refused: RefusedBy::default(),
             ended: EndedBy::default(),
             shed: 0,

@@ -2,16 +2,16 @@
 -- words ask for.
 use Rattle.std.specs.Prelude.{ℕ, ◌≡◌, ◌≢◌, ◌&&◌, ◌^◌, ◌⊎◌, ⊤, Bool, true, false, List, [], ◌∷◌}
 use Rattle.std.specs.Prelude.{Option, Some, None, option_and_then, if◌then◌else◌, codes, length}
-use Rattle.std.specs.Prelude.{nat_lt}
+use Rattle.std.specs.Prelude.{map, nat_lt, string_bytes, unwrap_or}
 use Rattle.std.specs.Option.{option_or}
 use Rattle.std.specs.List.{list_all}
 use Rattle.std.specs.Char.{digit_value}
 use Rattle.std.specs.Net.Grammar.{IsIpText}
 use Rattle.std.specs.Str.Parse.{digits_value, without_leading_plus}
 use Rattle.std.specs.declared.net.ip_addr.IpAddr.{IpAddr}
-use Rattle.clap.specs.Words.{App, IsAmong, Kinds, Row, Rule, Text, fault_of, new_app, new_rule}
-use Rattle.clap.specs.Words.{one_of, subcommand_of, with_rule, with_subcommand}
-use Rattle.clap.specs.declared.builder.ArgAction.TheVariants.{Set, SetTrue}
+use Rattle.clap.specs.Words.{App, IsAmong, Kinds, Row, Rule, Text, all_of, fault_of, new_app}
+use Rattle.clap.specs.Words.{new_rule, one_of, subcommand_of, with_rule, with_subcommand}
+use Rattle.clap.specs.declared.builder.ArgAction.TheVariants.{Append, Set, SetTrue}
 use Rattle.clap.specs.declared.builder.ValueParser.TheVariants.{Unsigned}
 use Rattle.clap.specs.declared.error.ErrorKind.{ErrorKind}
 use Rattle.clap.specs.declared.error.ErrorKind.TheVariants.{DisplayHelp, DisplayVersion}
@@ -25,8 +25,9 @@ use Rattle.relay_limits.specs.declared.TheConstants.{DEFAULT_REVISIONS, DEFAULT_
 use Rattle.relay_limits.specs.declared.TheConstants.{DEFAULT_SESSIONS, DEFAULT_WAITING_PATCHES}
 use Rattle.relay_limits.specs.declared.TheConstants.{MAX_COUNT, MAX_REVISIONS, MAX_ROOMS}
 use Rattle.relay_limits.specs.declared.TheConstants.{MAX_SESSIONS, MAX_WAITING_PATCHES}
-use Rattle.relay_options.specs.declared.settings.TheConstants.{MAX_OUTPUT_MIB, MAX_PORT}
-use Rattle.relay_options.specs.declared.settings.TheConstants.{MAX_ROUNDS, MAX_WEIGHT_LIMIT}
+use Rattle.relay_options.specs.declared.settings.TheConstants.{MAX_OUTPUT_MIB, MAX_PER_PEER}
+use Rattle.relay_options.specs.declared.settings.TheConstants.{MAX_PORT, MAX_ROUNDS}
+use Rattle.relay_options.specs.declared.settings.TheConstants.{MAX_WEIGHT_LIMIT}
 
 -- ---- the options, by name, least and most number, and default
 
@@ -88,6 +89,17 @@ rounds_option = number_option (codes "turns") 1 MAX_ROUNDS (codes "1000000000000
 abbrev pub output_option : Rule
 output_option = number_option (codes "max-output-mib") 1 MAX_OUTPUT_MIB (codes "256" ∷ [])
 
+abbrev pub per_peer_option : Rule
+per_peer_option = number_option (codes "per-peer") 1 MAX_PER_PEER []
+
+-- an option that takes a text, and may be given several times
+abbrev pub origin_option : Rule
+origin_option = record (new_rule (codes "origin")) {
+  long = Some (codes "origin");
+  action = Some Append;
+  value_names = 1;
+}
+
 -- flags: they take no value
 
 abbrev pub log_option : Rule
@@ -126,11 +138,11 @@ scripted name = with_script_options (new_app name)
 abbrev pub with_server_options : App → App
 with_server_options command =
     with_rule (with_rule (with_rule (with_rule (with_rule (with_rule (with_rule (with_rule
-    (with_weights
+    (with_rule (with_rule (with_weights
     (codes "262144" ∷ []) (codes "65536" ∷ []) (codes "1048576" ∷ []) (codes "16384" ∷ [])
     (with_rule (with_settings command) (epoch_option [])))
     listen_option) port_option) admin_option) rounds_option) log_option) forget_rooms_option)
-    closed_option) output_option
+    closed_option) output_option) origin_option) per_peer_option
 
 abbrev pub served : Text → App
 served name = with_server_options (new_app name)
@@ -162,6 +174,10 @@ pub record IsAddressIn (name : Text) (rows : List Row) (address : IpAddr) : Type
   pub text : Text
   pub given : one_of name rows ≡ Some text
   pub writes : IsIpText text address
+
+-- the texts under an option's name, in the order of the words; none if they do not name it
+abbrev pub texts_in : Text → List Row → List Text
+texts_in name rows = unwrap_or (all_of name rows) []
 
 -- a flag is set where `true` stands under its name, as it does if the words name it
 pub record IsFlagIn (name : Text) (rows : List Row) (set : Bool) : Type 0 where
@@ -202,12 +218,15 @@ abbrev pub IsJobOf : Text → List Row → Option ℕ → Job → Type 0
 IsJobOf name rows now (Script settings) = (name ≡ codes "script") × AreSettingsOf rows None settings
 IsJobOf name rows now (Loop settings) = (name ≡ codes "loop") × AreSettingsOf rows None settings
 IsJobOf name rows now Follow = name ≡ codes "follow"
-IsJobOf name rows now (Serve listen port admin rounds log forget_rooms closed output_mib settings) =
+IsJobOf name rows now (Serve listen port admin rounds log forget_rooms closed output_mib origins
+    per_peer settings) =
     (name ≡ codes "serve") × IsAddressIn (codes "listen") rows listen
     × (number_in (codes "port") rows ≡ Some port) × (number_in (codes "admin") rows ≡ admin)
     × (number_in (codes "turns") rows ≡ Some rounds) × IsFlagIn (codes "log") rows log
     × IsFlagIn (codes "forget-rooms") rows forget_rooms × IsFlagIn (codes "closed") rows closed
-    × (number_in (codes "max-output-mib") rows ≡ Some output_mib) × AreSettingsOf rows now settings
+    × (number_in (codes "max-output-mib") rows ≡ Some output_mib)
+    × (map string_bytes origins.items ≡ texts_in (codes "origin") rows)
+    × (number_in (codes "per-peer") rows ≡ per_peer) × AreSettingsOf rows now settings
 
 -- the same for what the words name, if they name a subcommand
 abbrev pub IsChosenBy : Option (Text × List Row) → Option ℕ → Job → Type 0

@@ -5,8 +5,9 @@ use Rattle.relay_options.specs.declared.job.Job.TheVariants.{Script, Loop, Follo
 use Rattle.relay_options.specs.declared.settings.Settings.{Settings}
 use Rattle.relay_limits.specs.declared.TheConstants.{MAX_COUNT, MAX_REVISIONS, MAX_ROOMS}
 use Rattle.relay_limits.specs.declared.TheConstants.{MAX_SESSIONS, MAX_WAITING_PATCHES}
-use Rattle.relay_options.specs.declared.settings.TheConstants.{MAX_OUTPUT_MIB, MAX_PORT}
-use Rattle.relay_options.specs.declared.settings.TheConstants.{MAX_ROUNDS, MAX_WEIGHT_LIMIT}
+use Rattle.relay_options.specs.declared.settings.TheConstants.{MAX_OUTPUT_MIB, MAX_PER_PEER}
+use Rattle.relay_options.specs.declared.settings.TheConstants.{MAX_PORT, MAX_ROUNDS}
+use Rattle.relay_options.specs.declared.settings.TheConstants.{MAX_WEIGHT_LIMIT}
 
 -- a limit of a weight, if there is one, is in range
 abbrev pub IsLimit : Option ℕ → Type 0
@@ -39,12 +40,18 @@ abbrev pub CanBeOpened : Bool → Option ℕ → Type 0
 CanBeOpened true None = ⊥
 CanBeOpened _ _ = ⊤
 
+-- a limit of the connections of one address, if there is one, is in range
+abbrev pub IsPerPeer : Option ℕ → Type 0
+IsPerPeer None = ⊤
+IsPerPeer (Some most) = (1 ≤ most) × (most ≤ MAX_PER_PEER)
+
 -- a job whose numbers are all in range
 abbrev pub IsPossible : Job → Type 0
 IsPossible (Script settings) = AreSettings settings
 IsPossible (Loop settings) = AreSettings settings
 IsPossible Follow = ⊤
-IsPossible (Serve listen port admin rounds log forget_rooms closed output_mib settings) =
+IsPossible (Serve listen port admin rounds log forget_rooms closed output_mib origins per_peer
+    settings) =
     (port ≤ MAX_PORT) × IsAdmin port admin × CanBeOpened closed admin
     × (1 ≤ rounds) × (rounds ≤ MAX_ROUNDS) × (1 ≤ output_mib) × (output_mib ≤ MAX_OUTPUT_MIB)
-    × AreSettings settings
+    × IsPerPeer per_peer × AreSettings settings

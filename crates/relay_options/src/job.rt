@@ -9,7 +9,7 @@ use std::net::IpAddr;
 /// let words = [String::from_str(alloc, "relay").ok()?, String::from_str(alloc, "follow").ok()?];
 /// assert!(rt; matches!(job_of(alloc, &words, None), Ok(Job::Follow)));
 /// ```
-#[derive(Clone, Copy, Debug, PartialEq, Eq)]
+#[derive(Debug, PartialEq, Eq, Drop)]
 pub enum Job {
     /// `relay`, or `relay script`: run a script.
     Script(Settings),
@@ -37,6 +37,11 @@ pub enum Job {
         closed: bool,
         /// The amount of output that is held for all connections together, in MiB: 1 to 2^20.
         output_mib: u64,
+        /// The origins whose pages may connect, in the order of the words and as they are written.
+        /// An empty list means pages of every origin.
+        origins: Vec<String>,
+        /// The number of connections that one address may have, 1 to 10^6. `None` means no limit.
+        per_peer: Option<u64>,
         settings: Settings,
     },
 }

@@ -6,16 +6,17 @@ ghost use Rattle.relay_options.specs.CommandLine.{IsAddressIn, IsFlagIn, IsJobOf
 ghost use Rattle.relay_options.specs.CommandLine.{admin_option};
 ghost use Rattle.relay_options.specs.CommandLine.{closed_option, epoch_option};
 ghost use Rattle.relay_options.specs.CommandLine.{forget_rooms_option, listen_option, log_option};
-ghost use Rattle.relay_options.specs.CommandLine.{number_in, output_option, port_option};
+ghost use Rattle.relay_options.specs.CommandLine.{number_in, origin_option, output_option};
+ghost use Rattle.relay_options.specs.CommandLine.{per_peer_option, port_option};
 ghost use Rattle.relay_options.specs.CommandLine.{rounds_option, with_server_options};
-ghost use Rattle.relay_options.specs.Ranges.{CanBeOpened, IsAdmin, IsPossible};
+ghost use Rattle.relay_options.specs.Ranges.{CanBeOpened, IsAdmin, IsPerPeer, IsPossible};
 
 use crate::hub_options::{
     epoch, history_weight, settings_of, telling_weight, view_weight, waiting_weight, with_settings,
 };
 use crate::job::{Job, Stop};
-use crate::settings::{MAX_OUTPUT_MIB, MAX_PORT, MAX_ROUNDS};
-use crate::values::{given_address, given_number, is_set, number, number_of};
+use crate::settings::{MAX_OUTPUT_MIB, MAX_PER_PEER, MAX_PORT, MAX_ROUNDS};
+use crate::values::{given_address, given_number, given_texts, is_set, number, number_of};
 use clap::{Arg, ArgAction, ArgMatches, Command};
 use std::alloc::{AllocError, Global};
 use std::net::IpAddr;
@@ -59,7 +60,9 @@ pub(crate) fn with_server_options<'a>(
         .arg(log(alloc))?
         .arg(forget_rooms(alloc))?
         .arg(closed(alloc))?
-        .arg(output(alloc))?;
+        .arg(output(alloc))?
+        .arg(origin(alloc))?
+        .arg(per_peer(alloc))?;
     Ok(command)
 }
 
@@ -157,6 +160,27 @@ fn output<'a>(alloc: Global) -> Arg<'a>
         .default_value(OUTPUT_MIB)
 }
 
+fn origin<'a>(alloc: Global) -> Arg<'a>
+    ensures { rule_of result ≡ origin_option }
+{
+    Arg::new(alloc, "origin")
+        .long("origin")
+        .value_name("ORIGIN")
+        .action(ArgAction::Append)
+        .help(
+            "The origin whose pages may connect, such as https://example.org; several times for \
+             several; without it, pages of every origin may",
+        )
+}
+
+fn per_peer<'a>(alloc: Global) -> Arg<'a>
+    ensures { rule_of result ≡ per_peer_option }
+{
+    number(alloc, "per-peer", 1, MAX_PER_PEER).help(
+        "The most connections of one address, 1 to 1000000; without it, as many as there may be",
+    )
+}
+
 /// The job of `relay serve`.
 pub(crate) fn serve_of(alloc: Global, given: &ArgMatches<'_>, now: Option<u64>) -> Result<Job, Stop>
     ensures range { IfOk result IsPossible }
@@ -174,6 +198,8 @@ pub(crate) fn serve_of(alloc: Global, given: &ArgMatches<'_>, now: Option<u64>) 
         forget_rooms: is_set(given, "forget-rooms"),
         closed: closed_of(alloc, given, admin)?,
         output_mib: number_of(alloc, given, "max-output-mib", 1, MAX_OUTPUT_MIB)?,
+        origins: given_texts(alloc, given, "origin")?,
+        per_peer: per_peer_of(alloc, given)?,
         settings: settings_of(alloc, given, now)?,
     })
 }
@@ -206,6 +232,23 @@ fn admin_of(alloc: Global, given: &ArgMatches<'_>, port: u16) -> Result<Option<u
         }
         Some(_) => Err(Stop::Misuse(format!(in alloc;
             "error: --admin takes a port from 1 to {MAX_PORT}, another one than --port\n"
+        )?)),
+    }
+}
+
+/// The number of connections that one address may have, if there is a limit; checked again as in
+/// [`number_of`].
+fn per_peer_of(alloc: Global, given: &ArgMatches<'_>) -> Result<Option<u64>, Stop>
+    ensures range { IfOk result IsPerPeer }
+    ensures given { IfOk result (λ most. number_in (codes "per-peer") (rows_of (found_of given.now))
+        ≡ most) }
+    ensures no_help { IfErr result IsNoHelp }
+{
+    match given_number(given, "per-peer") {
+        None => Ok(None),
+        Some(most) if 1 <= most && most <= MAX_PER_PEER => Ok(Some(most)),
+        Some(_) => Err(Stop::Misuse(format!(in alloc;
+            "error: --per-peer takes a number from 1 to {MAX_PER_PEER}\n"
         )?)),
     }
 }

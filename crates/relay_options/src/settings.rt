@@ -13,6 +13,9 @@ pub const MAX_ROUNDS: u64 = 1_000_000_000_000;
 /// The largest `--max-output-mib`: 1 TiB.
 pub const MAX_OUTPUT_MIB: u64 = 1_048_576;
 
+/// The largest `--per-peer`, in connections of one address.
+pub const MAX_PER_PEER: u64 = 1_000_000;
+
 /// The largest port.
 pub const MAX_PORT: u64 = 65_535;
 

@@ -1,13 +1,13 @@
-//! Reads the value of an option: a number within a range, an address, or a flag.
-ghost use Rattle.std.specs.Prelude.{[], ◌≡◌, ◌≤◌, IfErr, IfOk, IfSome, Some};
+//! Reads the values of an option: a number within a range, an address, texts, or a flag.
+ghost use Rattle.std.specs.Prelude.{[], ◌≡◌, ◌≤◌, IfErr, IfOk, IfSome, Some, map, string_bytes};
 ghost use Rattle.clap.specs.Words.{found_of, rows_of, rule_of};
 ghost use Rattle.relay_options.specs.CommandLine.{IsAddressIn, IsFlagIn, IsNoHelp, number_in};
-ghost use Rattle.relay_options.specs.CommandLine.{number_option};
+ghost use Rattle.relay_options.specs.CommandLine.{number_option, texts_in};
 
 use crate::job::Stop;
 use clap::builder::ValueParser;
 use clap::{Arg, ArgAction, ArgMatches};
-use std::alloc::Global;
+use std::alloc::{AllocError, Global};
 use std::net::IpAddr;
 
 /// An option that takes a number from `least` to `most`.
@@ -56,6 +56,33 @@ pub(crate) fn given_address(given: &ArgMatches<'_>, name: &str) -> Option<IpAddr
     ensures { IfSome result (IsAddressIn name.now (rows_of (found_of given.now))) }
 {
     given.get_one::<IpAddr>(name)
+}
+
+/// The texts of an option that may be given several times, in the order of the words, or an empty
+/// list if it is not given.
+pub(crate) fn given_texts(
+    alloc: Global,
+    given: &ArgMatches<'_>,
+    name: &str,
+) -> Result<Vec<String>, AllocError>
+    ensures { IfOk result (λ texts. map string_bytes texts.items
+        ≡ texts_in name.now (rows_of (found_of given.now))) }
+{
+    match given.get_strs(name) {
+        Some(texts) => owned(alloc, texts),
+        None => Ok(Vec::new(alloc)),
+    }
+}
+
+fn owned(alloc: Global, texts: &[&str]) -> Result<Vec<String>, AllocError>
+    ensures { IfOk result (λ owned. map string_bytes owned.items
+        ≡ map (λ text. text.now) texts.now) }
+{
+    let mut owned = Vec::with_capacity(alloc, texts.len())?;
+    for text in texts {
+        owned.push(String::from_str(alloc, text)?)?;
+    }
+    Ok(owned)
 }
 
 /// True if the words name a flag.

@@ -1,12 +1,11 @@
 -- The pace of a link's output, over many turns.
-use Rattle.std.proofs.Common.{◌≡◌, ℕ, List, [], ◌∷◌, Bool, true, false, ◌==◌, not, ◌+◌, ◌-◌, ◌*◌}
+use Rattle.std.proofs.Common.{◌≡◌, ℕ, List, [], ◌∷◌, Bool, true, false, not, ◌+◌, ◌-◌, ◌*◌}
 use Rattle.std.proofs.Common.{◌<◌, ◌≤◌, max, nat_lt, arith, refl, cond, ap}
 use Rattle.std.proofs.Common.{◌∙◌}
 use Rattle.std.proofs.lemmas.Bool.Decides.{nat_tests}
 use Rattle.relay_schedule.specs.Output.{sixteenth, loaded, is_over_due, Turn, after_turn}
 use Rattle.relay_schedule.specs.Output.{after_turns, taken_in, AreFrom, IsPaced}
 use Rattle.relay_schedule.specs.declared.output.LinkOutput.{LinkOutput}
-use Rattle.relay_schedule.specs.declared.output.TheConstants.{PATIENCE}
 
 -- bytes are less than a sixteenth, rounded up, if sixteen times as many are less than all
 pub sixteenth_most : (unsent taken : ℕ) → unsent ≤ 16 * taken → sixteenth unsent ≤ taken
@@ -87,17 +86,19 @@ took_due from (turn ∷ turns) output is are enough waits =
     go false known rest anew = anew (rw known are.0)
 
 -- a link of which a sixteenth was taken lately of what was unsent before
-pub not_over_due : (before : LinkOutput) (turns : List Turn) (from second : ℕ) → IsPaced before
+pub not_over_due : (before : LinkOutput) (turns : List Turn) (from second patience : ℕ)
+    → IsPaced before
     → AreFrom from turns
     → before.unsent ≤ 16 * taken_in turns
     → 0 < (after_turns turns before).unsent
-    → second < from + PATIENCE
-    → is_over_due (after_turns turns before) second ≡ false
-not_over_due before turns from second is are enough waits soon =
+    → 0 < patience
+    → second < from + patience
+    → nat_lt (second - (after_turns turns before).began) patience ≡ true
+not_over_due before turns from second patience is are enough waits some soon =
     let most = is.most in
     let began = took_due from turns before is are
     (omega (arith, most, sixteenth_most before.unsent (taken_in turns) enough)) waits in
-    grind (arith, nat_tests, began, waits, soon)
+    grind (arith, nat_tests, began, some, soon)
 
 -- the stretch goes on while less is taken than is due
 stretch_goes_on : (turns : List Turn) (output : LinkOutput) → IsPaced output
@@ -113,13 +114,15 @@ stretch_goes_on (turn ∷ turns) output is little =
     let rest = stretch_goes_on turns (after_turn turn output) (paced_after turn output is) still in
     (rest.0 ∙ ap (λ b. cond b output.began turn.second) known, rest.1)
 
-pub over_due_by_age : (begin : LinkOutput) (turns : List Turn) (second : ℕ) → IsPaced begin
+pub over_due_by_age : (begin : LinkOutput) (turns : List Turn) (second patience : ℕ)
+    → IsPaced begin
     → begin.due ≡ sixteenth begin.unsent
     → 16 * taken_in turns < begin.unsent
-    → is_over_due (after_turns turns begin) second ≡ not (nat_lt (second - begin.began) PATIENCE)
-over_due_by_age begin turns second is due little =
+    → is_over_due (after_turns turns begin) second patience
+    ≡ not (nat_lt (second - begin.began) patience)
+over_due_by_age begin turns second patience is due little =
     let less = sixteenth_least begin.unsent (taken_in turns) little in
     let goes_on = stretch_goes_on turns begin is (omega (arith, less, due)) in
-    let waits : ((after_turns turns begin).unsent == 0) ≡ false =
+    let waits : nat_lt 0 (after_turns turns begin).unsent ≡ true =
     let some = goes_on.1 in grind (arith, nat_tests, some) in
     rw (waits, goes_on.0) refl

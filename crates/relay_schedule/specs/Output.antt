@@ -1,9 +1,8 @@
 -- The output that a link holds, and the pace at which its stream has to take it.
-use Rattle.std.specs.Prelude.{ℕ, ◌+◌, ◌-◌, ◌^◌, ◌<◌, ◌≤◌, ◌==◌, ◌||◌, max, min, nat_lt, not, Bool}
+use Rattle.std.specs.Prelude.{ℕ, ◌+◌, ◌-◌, ◌/◌, ◌^◌, ◌<◌, ◌≤◌, ◌&&◌, max, min, nat_lt, not, Bool}
 use Rattle.std.specs.Prelude.{if◌then◌else◌, List, [], ◌∷◌, ⊤}
 use Rattle.std.specs.Int.{div_ceil}
 use Rattle.relay_schedule.specs.declared.output.LinkOutput.{LinkOutput}
-use Rattle.relay_schedule.specs.declared.output.TheConstants.{PATIENCE}
 
 -- the part of so many unsent bytes that has to be taken in a stretch: a sixteenth, rounded up
 abbrev pub sixteenth : ℕ → ℕ
@@ -23,9 +22,14 @@ abbrev pub due_after : LinkOutput → ℕ → ℕ → ℕ
 due_after output taken unsent =
     if nat_lt taken output.due then output.due - taken else sixteenth unsent
 
--- nothing waits, or what is due in the stretch was not taken for as long as that may take
-abbrev pub is_over_due : LinkOutput → ℕ → Bool
-is_over_due output second = (output.unsent == 0) || not (nat_lt (second - output.began) PATIENCE)
+-- output waits, and what is due in the stretch was not taken for as long as there is patience
+abbrev pub is_over_due : LinkOutput → ℕ → ℕ → Bool
+is_over_due output second patience =
+    nat_lt 0 output.unsent && not (nat_lt (second - output.began) patience)
+
+-- what all links may hold without the reserve, which is a quarter of a limit
+abbrev pub limit_without_reserve : ℕ → ℕ
+limit_without_reserve most = most - most / 4
 
 -- a turn: the bytes that it drew and those that the stream took, and its second
 pub record Turn : Type 0 where

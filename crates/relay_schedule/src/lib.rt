@@ -33,7 +33,7 @@ mod turn_line;
 pub use credit::{Credit, ENTRY_DEBT, ROUND_CREDIT};
 pub use empty_rooms::EmptyRooms;
 pub use key_queue::KeyQueue;
-pub use output::{LinkOutput, OutputTotal, PATIENCE};
+pub use output::{BEHIND, CROWDED_PATIENCE, LinkOutput, OutputTotal, PATIENCE};
 pub use queues::{Output, Queues, Wants};
 pub use read_ahead::{ReadAhead, ReadAheadByRoom, ReadAheadLimits};
 pub use ready_queue::ReadyQueue;

@@ -3,15 +3,25 @@
 //! A link that holds unsent output has to send it at a pace, which is counted in stretches. The
 //! first one begins when output begins to wait. In each stretch the stream has to take a sixteenth
 //! at least of what was unsent as it began. Once it has, the next one begins; if it has not within
-//! [`PATIENCE`] seconds, the link is over due. Output that is drawn during a stretch does not
-//! lengthen it, and is not due in it.
+//! so many seconds as there is patience, the link is over due. Output that is drawn during a
+//! stretch does not lengthen it, and is not due in it.
+//!
+//! There is a limit for all links together. The last quarter of it is a reserve for links that keep
+//! up; while it is in use, there is less patience.
 ghost use Rattle.std.specs.Prelude.{ℕ, ◌≡◌, ◌≤◌, ◌<◌, ◌+◌, ◌-◌, ◌*◌, ◌/◌, ◌^◌, max, min, nat_lt};
-ghost use Rattle.std.specs.Prelude.{List, false, not};
+ghost use Rattle.std.specs.Prelude.{List, Bool, if◌then◌else◌, ◌&&◌, ◌||◌, false, not};
 ghost use Rattle.relay_schedule.specs.Output.{loaded, began, due_after, is_over_due, sixteenth};
+ghost use Rattle.relay_schedule.specs.Output.{limit_without_reserve};
 ghost use Rattle.relay_schedule.specs.Output.{Turn, after_turns, taken_in, AreFrom, IsPaced};
 
 /// The seconds within which a sixteenth of a link's output has to be taken.
 pub const PATIENCE: u64 = 30;
+
+/// The same while the reserve is in use ([`OutputTotal::is_crowded`]).
+pub const CROWDED_PATIENCE: u64 = 2;
+
+/// The unsent bytes with which a link no longer keeps up.
+pub const BEHIND: u64 = 65_536;
 
 /// The output of a link, in bytes: what was drawn and its stream has not taken, and the most that
 /// this was at once. The link's buffer stays as large as that until the link ends.
@@ -38,7 +48,7 @@ pub struct LinkOutput {
 /// let mut total = OutputTotal::within(1_000);
 /// let held = LinkOutput { held: 600, ..LinkOutput::NONE };
 /// total.change(LinkOutput::NONE, held);
-/// assert!(rt; total.held == 600 && !total.is_full() && !total.is_relieved());
+/// assert!(rt; total.held == 600 && !total.is_crowded() && !total.is_relieved());
 /// ```
 #[derive(Clone, Copy, Debug, PartialEq, Eq)]
 pub struct OutputTotal {
@@ -85,29 +95,30 @@ impl LinkOutput {
         }
     }
 
-    /// True if the present stretch has lasted [`PATIENCE`] seconds, or nothing waits. So a link
-    /// that takes, within each 30 seconds, a sixteenth of what was unsent before them is never over
-    /// due while output waits (`took_enough`). One that has taken less since a stretch began is
-    /// over due once that was 30 seconds ago (`took_little`).
+    /// True if output waits, and the present stretch has lasted so many seconds as there is
+    /// patience. So a link that takes, within each so many seconds, a sixteenth of what was unsent
+    /// before them is never over due (`took_enough`). One that has taken less since a stretch began
+    /// is over due once that was so many seconds ago (`took_little`).
     ///
     /// ```
     /// let mut output = LinkOutput { unsent: 320, held: 320, began: 60, due: 20 };
     /// output.note(0, 19, 89);
-    /// assert!(rt; !output.is_over_due(60 + PATIENCE - 1) && output.is_over_due(60 + PATIENCE));
-    /// assert!(rt; LinkOutput::NONE.is_over_due(0));
+    /// assert!(rt; !output.is_over_due(89, PATIENCE) && output.is_over_due(90, PATIENCE));
+    /// assert!(rt; output.is_over_due(62, CROWDED_PATIENCE));
+    /// assert!(rt; !LinkOutput::NONE.is_over_due(90, PATIENCE));
     /// ```
-    pub fn is_over_due(self, second: u64) -> bool
-        ensures over_due { result ≡ is_over_due self second }
+    pub fn is_over_due(self, second: u64, patience: u64) -> bool
+        ensures over_due { result ≡ is_over_due self second patience }
         ensures took_enough { (before : LinkOutput) (turns : List Turn) (from : ℕ)
             → IsPaced before → self ≡ after_turns turns before → AreFrom from turns
-            → before.unsent ≤ 16 * taken_in turns → 0 < self.unsent → second < from + PATIENCE
+            → before.unsent ≤ 16 * taken_in turns → 0 < patience → second < from + patience
             → result ≡ false }
         ensures took_little { (begin : LinkOutput) (turns : List Turn)
             → IsPaced begin → begin.due ≡ sixteenth begin.unsent → self ≡ after_turns turns begin
             → 16 * taken_in turns < begin.unsent
-            → result ≡ not (nat_lt (second - begin.began) PATIENCE) }
+            → result ≡ not (nat_lt (second - begin.began) patience) }
     {
-        self.unsent == 0 || second.saturating_sub(self.began) >= PATIENCE
+        self.unsent > 0 && second.saturating_sub(self.began) >= patience
     }
 }
 
@@ -124,16 +135,36 @@ impl OutputTotal {
         OutputTotal { held: 0, most }
     }
 
-    /// True if as much is held as may be.
+    /// True if three quarters of the limit are held: the rest is the reserve.
     ///
     /// ```
-    /// assert!(rt; OutputTotal { held: 1_000, most: 1_000 }.is_full());
-    /// assert!(rt; !OutputTotal { held: 999, most: 1_000 }.is_full());
+    /// assert!(rt; OutputTotal { held: 750, most: 1_000 }.is_crowded());
+    /// assert!(rt; !OutputTotal { held: 749, most: 1_000 }.is_crowded());
     /// ```
-    pub fn is_full(self) -> bool
-        ensures { result ≡ not (nat_lt self.held self.most) }
+    pub fn is_crowded(self) -> bool
+        ensures { result ≡ not (nat_lt self.held (limit_without_reserve self.most)) }
     {
-        self.held >= self.most
+        self.held >= self.most - self.most / 4
+    }
+
+    /// True if a link may draw what is long: as long as there is room for all, and as long as the
+    /// reserve lasts if less than [`BEHIND`] bytes of it are unsent.
+    ///
+    /// ```
+    /// let total = OutputTotal { held: 999, most: 1_000 };
+    /// assert!(rt; total.has_room_for(LinkOutput::NONE));
+    /// assert!(rt; !total.has_room_for(LinkOutput { unsent: BEHIND, ..LinkOutput::NONE }));
+    /// assert!(rt; !OutputTotal { held: 1_000, most: 1_000 }.has_room_for(LinkOutput::NONE));
+    /// ```
+    pub fn has_room_for(self, link: LinkOutput) -> bool
+        ensures { result ≡ nat_lt self.held (if nat_lt link.unsent BEHIND then self.most
+            else limit_without_reserve self.most) }
+    {
+        if link.unsent < BEHIND {
+            self.held < self.most
+        } else {
+            !self.is_crowded()
+        }
     }
 
     /// True if no more than half of that is held.

@@ -119,8 +119,8 @@ JobEnds job.Follow status input left old new =
     EndsAs follow.Answers None ⊥ status input left old new
 JobEnds (job.Loop settings) status input left old new =
     EndsBy (λ ended. LoopEnds ended input left old new) settings status
-JobEnds (job.Serve listen port admin rounds log forget_rooms closed output_mib settings) status
-    input left old new =
+JobEnds (job.Serve listen port admin rounds log forget_rooms closed output_mib origins per_peer
+    settings) status input left old new =
     (left ≡ input) × EndsBy (λ ended. ServesUpTo admin rounds ended old new) settings status
 
 -- the text was written, or a prefix of it if the writer failed

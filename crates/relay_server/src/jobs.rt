@@ -134,6 +134,8 @@ pub fn carry_out<N: Clock + Net, R: Read, W: Write, E: Write>(
             forget_rooms,
             closed,
             output_mib,
+            origins,
+            per_peer,
             settings,
         } => {
             let options = ServeOptions {
@@ -145,6 +147,8 @@ pub fn carry_out<N: Clock + Net, R: Read, W: Write, E: Write>(
                 forget_rooms,
                 closed,
                 output_mib,
+                origins,
+                per_peer,
             };
             let ended = serve(alloc, net, writer, errors, options, settings);
             report_sockets(ended, errors)

@@ -22,11 +22,13 @@ impl LogLevel {
                 ..
             } => LogLevel::Info,
             LogEntry::Ended { cause, .. } => match cause {
-                EndCause::Memory | EndCause::Full => LogLevel::Warn,
+                EndCause::Memory | EndCause::Full | EndCause::Slow => LogLevel::Warn,
                 _ => LogLevel::Info,
             },
-            LogEntry::Refused { .. } | LogEntry::Evicted { .. } | LogEntry::OutOfMemory =>
-                LogLevel::Warn,
+            LogEntry::Refused { .. }
+            | LogEntry::Evicted { .. }
+            | LogEntry::Rejected { .. }
+            | LogEntry::OutOfMemory => LogLevel::Warn,
         }
     }
 }

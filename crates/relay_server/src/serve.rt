@@ -1,6 +1,6 @@
 //! The job `relay serve`: it listens, runs its rounds, and ends.
 ghost use Rattle.std.specs.Prelude.{ℕ, ◌≡◌, ◌≢◌, ◌≤◌, ◌↔◌, ◌⊎◌, [], OnOk, OnErr, IfErr, IsErrOf};
-ghost use Rattle.std.specs.Prelude.{◌-◌, ◌*◌, ◌^◌, min, false};
+ghost use Rattle.std.specs.Prelude.{◌-◌, ◌*◌, ◌^◌, min, false, unwrap_or};
 ghost use Rattle.std.specs.Io.KnownBytes.{Appends};
 ghost use Rattle.relay_hub.specs.Queries.{BadLimits};
 ghost use Rattle.relay_hub.specs.Stands.{StandsFor};
@@ -9,6 +9,7 @@ ghost use Rattle.relay_server.specs.Jobs.{Listens, ServesUpTo};
 ghost use Rattle.relay_script.specs.Lines.{AppendsPart};
 ghost use Rattle.relay_server.specs.Printed.{line_of, served_text};
 ghost use Rattle.relay_event_loop.specs.Connections.{hub_of, entrance_of, made_by, made_after};
+ghost use Rattle.relay_event_loop.specs.Connections.{origins_of, peer_limit_of};
 ghost use Rattle.relay_event_loop.specs.Limits.{forgets_rooms, output_limit_of};
 ghost use Rattle.relay_event_loop.specs.Rounds.{RoundsOf};
 ghost use Rattle.relay_link.specs.Entrance.{is_closed};
@@ -37,8 +38,8 @@ use std::time::Clock;
 const MIB: u64 = 1_048_576;
 
 /// The place at which a server listens, the time for which it runs, whether it logs, forgets rooms
-/// and begins closed, and how much output it holds.
-#[derive(Clone, Copy, Debug, PartialEq, Eq)]
+/// and begins closed, how much output it holds, and whom it lets in.
+#[derive(Debug, PartialEq, Eq, Drop)]
 pub struct ServeOptions {
     /// The address on which it listens for clients.
     pub listen: IpAddr,
@@ -57,6 +58,10 @@ pub struct ServeOptions {
     pub closed: bool,
     /// The amount of output that its links hold together, in MiB.
     pub output_mib: u64,
+    /// The origins whose pages may connect; if there is none, those of every origin may.
+    pub origins: Vec<String>,
+    /// The number of connections that one address may have, if there is a limit.
+    pub per_peer: Option<u64>,
 }
 
 /// Listens, prints `listening PORT`, runs the rounds, ends the connections, and prints `turns N`:
@@ -137,18 +142,11 @@ fn serve_hub<N: Clock + Net, W: Write, J: ConnectionLog>(
     let address = SocketAddr::new(options.listen, options.port);
     let bound = bound_listener::open(net, address)?;
     let polling = bound_listener::poll(alloc, net, &bound.listener)?;
+    let rounds = options.rounds;
     let Some(admin) = options.admin else {
         let readiness = AdminReadiness::without_port(polling, net);
         let mut server = server_of(alloc, hub, readiness, options);
-        return host(
-            alloc,
-            writer,
-            log,
-            &mut server,
-            &bound,
-            options.rounds,
-            settings,
-        );
+        return host(alloc, writer, log, &mut server, &bound, rounds, settings);
     };
     let admin = bound_listener::open_admin(net, admin, &polling)?;
     let readiness = AdminReadiness::new(polling, net);
@@ -160,7 +158,7 @@ fn serve_hub<N: Clock + Net, W: Write, J: ConnectionLog>(
         &mut server,
         &bound,
         &mut AdminPort::new(alloc, admin),
-        options.rounds,
+        rounds,
         settings,
     )
 }
@@ -178,6 +176,8 @@ fn server_of<S: Read + Write + OpenStream + Drop, R: Readiness<S>>(
     ensures open { options.closed ≡ false → entrance_of result ≡ Open }
     ensures output { output_limit_of result
         ≡ min (2 ^ 64 - 1) (options.output_mib * MIB) }
+    ensures origins { origins_of result ≡ options.origins.items }
+    ensures per_peer { peer_limit_of result ≡ unwrap_or options.per_peer (2 ^ 64 - 1) }
 {
     let most_output = bytes_of(options.output_mib);
     let mut server = Server::new(alloc, hub, readiness, most_output);
@@ -187,6 +187,10 @@ fn server_of<S: Read + Write + OpenStream + Drop, R: Readiness<S>>(
     if options.closed {
         server.set_entrance(Entrance::closed(alloc));
     }
+    if let Some(most) = options.per_peer {
+        server.set_per_peer(most);
+    }
+    server.set_origins(options.origins);
     server
 }
 

@@ -26,6 +26,7 @@ says left Peer => time=1970-01-01T00:00:00.000Z level=info event=ended peer=127.
 says ended Stream => time=1970-01-01T00:00:00.000Z level=info event=ended peer=127.0.0.1:51000 link=7 cause=stream rounds=3\n
 says left Memory => time=1970-01-01T00:00:00.000Z level=warn event=ended peer=127.0.0.1:51000 link=7 session=12 room=board cause=memory rounds=3\n
 says evicted => time=1970-01-01T00:00:00.000Z level=warn event=evicted peer=127.0.0.1:51000 link=7 rounds=3\n
+says rejected => time=1970-01-01T00:00:00.000Z level=warn event=rejected peer=127.0.0.1:51000 cause=per-peer\n
 
 # The line of a refused handshake says why. It is a warning if a limit was reached or memory is short.
 says refused NotFound => time=1970-01-01T00:00:00.000Z level=info event=refused peer=127.0.0.1:51000 link=7 status=404\n
@@ -38,6 +39,7 @@ says refused Closed => time=1970-01-01T00:00:00.000Z level=info event=refused pe
 says ended Binary => time=1970-01-01T00:00:00.000Z level=info event=ended peer=127.0.0.1:51000 link=7 cause=binary rounds=3\n
 says ended Broken => time=1970-01-01T00:00:00.000Z level=info event=ended peer=127.0.0.1:51000 link=7 cause=broken rounds=3\n
 says ended Full => time=1970-01-01T00:00:00.000Z level=warn event=ended peer=127.0.0.1:51000 link=7 cause=full rounds=3\n
+says ended Slow => time=1970-01-01T00:00:00.000Z level=warn event=ended peer=127.0.0.1:51000 link=7 cause=slow rounds=3\n
 says ended Silent => time=1970-01-01T00:00:00.000Z level=info event=ended peer=127.0.0.1:51000 link=7 cause=silent rounds=3\n
 says ended Ended => time=1970-01-01T00:00:00.000Z level=info event=ended peer=127.0.0.1:51000 link=7 cause=relay rounds=3\n
 
@@ -184,6 +186,9 @@ fn entry_of(words: &str) -> Option<LogEntry<'static>> {
             connection,
             rounds: 3,
         },
+        "rejected" => LogEntry::Rejected {
+            peer: connection.peer,
+        },
         _ => return None,
     })
 }
@@ -209,6 +214,7 @@ fn cause_of(name: &str) -> Option<EndCause> {
         "Stream" => EndCause::Stream,
         "Memory" => EndCause::Memory,
         "Full" => EndCause::Full,
+        "Slow" => EndCause::Slow,
         "Silent" => EndCause::Silent,
         "Ended" => EndCause::Ended,
         _ => return None,

@@ -45,12 +45,12 @@ impl<R: AllocGlobal> Subject<R> for Nets {
     fn act(&mut self, rt: &R, act: &str) -> Option<String> {
         let alloc = rt.alloc();
         let (job, lack) = act.rsplit_once(' ')?;
-        let told = done(alloc, FaultyNet::without(lack)?, job_named(job)?);
+        let told = done(alloc, FaultyNet::without(lack)?, job_named(alloc, job)?);
         on_one_line(alloc, told?.as_str())
     }
 }
 
-fn serve_at(listen: IpAddr) -> Job {
+fn serve_at(alloc: Global, listen: IpAddr) -> Job {
     Job::Serve {
         listen,
         port: 7,
@@ -60,6 +60,8 @@ fn serve_at(listen: IpAddr) -> Job {
         forget_rooms: false,
         closed: false,
         output_mib: 256,
+        origins: Vec::new(alloc),
+        per_peer: None,
         settings: Settings {
             epoch: 2,
             ..Settings::DEFAULT
@@ -67,10 +69,10 @@ fn serve_at(listen: IpAddr) -> Job {
     }
 }
 
-fn job_named(name: &str) -> Option<Job> {
+fn job_named(alloc: Global, name: &str) -> Option<Job> {
     match cut(name) {
-        ("serve", _) => Some(serve_at(IpAddr::V4(Ipv4Addr::LOCALHOST))),
-        ("serve-at", address) => Some(serve_at(address.parse::<IpAddr>().ok()?)),
+        ("serve", _) => Some(serve_at(alloc, IpAddr::V4(Ipv4Addr::LOCALHOST))),
+        ("serve-at", address) => Some(serve_at(alloc, address.parse::<IpAddr>().ok()?)),
         ("loop", _) => Some(Job::Loop(Settings::DEFAULT)),
         _ => None,
     }

@@ -1,6 +1,7 @@
--- Lemmas on routes, replies and heads.
+-- Lemmas on routes, replies, heads and origins.
 pub mod Routes
 pub mod Suffixes
 pub mod Refusals
 pub mod Heads
+pub mod Origins
 mod Rows

@@ -1,8 +1,9 @@
 -- Worked heads, by computation.
-use Rattle.std.proofs.Common.{◌≡◌, ℕ, List, [], ◌∷◌, codes, true, Some, None, refl}
+use Rattle.std.proofs.Common.{◌≡◌, ℕ, List, [], ◌∷◌, codes, true, false, Some, None, refl}
 use Rattle.httparse.specs.Grammar.{RequestHead, crlf, Field, trim_ows}
 use Rattle.relay_http_head.specs.Head.{has_element, only_value}
 use Rattle.relay_shake.specs.Key.{key_of}
+use Rattle.relay_shake.specs.Origin.{at_most_one_origin, origin_of}
 use Rattle.relay_access.specs.declared.access.Access.TheVariants.{ReadWrite, ReadOnly}
 use Rattle.relay_shake.specs.Route.{asked_of}
 use Rattle.relay_shake.specs.Handshake.{accept, refuse, verdict_of}
@@ -41,6 +42,23 @@ two_hosts : only_value (codes "Host") ((codes "host", codes "a") ∷ (codes "HOS
     ≡ None
 two_hosts = refl
 
+origin_among_others : origin_of ((codes "Host", codes "a")
+    ∷ (codes "ORIGIN", codes "https://a.example") ∷ []) ≡ Some (codes "https://a.example")
+origin_among_others = refl
+
+empty_origin : origin_of ((codes "Origin", []) ∷ []) ≡ Some []
+empty_origin = refl
+
+no_origin : at_most_one_origin ((codes "Host", codes "a") ∷ []) ≡ true
+no_origin = refl
+
+two_origins : at_most_one_origin ((codes "Origin", codes "null") ∷ (codes "origin", codes "null")
+    ∷ []) ≡ false
+two_origins = refl
+
+origin_beyond_ascii : at_most_one_origin ((codes "Origin", 195 ∷ 164 ∷ []) ∷ []) ≡ false
+origin_beyond_ascii = refl
+
 element_among_others : has_element (codes "Connection") (codes "Upgrade") ((
   codes "connection",
   codes "keep-alive,\t upgrade ,x",
@@ -51,9 +69,9 @@ element_among_others = refl
 abbrev field : List ℕ → List ℕ → Field
 field name raw = record { name = name; raw = raw; end = crlf }
 
--- the sample head with this version
-abbrev sample : List ℕ → RequestHead
-sample version = record {
+-- the sample head with this version, and these fields behind its own
+abbrev sample : List ℕ → List Field → RequestHead
+sample version more = record {
   blank = [];
   method = codes "GET";
   target = codes "/rooms/a";
@@ -65,19 +83,33 @@ sample version = record {
       ∷ field (codes "Connection") (codes " keep-alive, Upgrade")
       ∷ field (codes "Sec-WebSocket-Key") (codes " dGhlIHNhbXBsZSBub25jZQ==")
       ∷ field (codes "Sec-WebSocket-Version") version
-      ∷ [];
+      ∷ more;
   last = crlf;
 }
 
-accepted : verdict_of (sample (codes " 13")) []
-    ≡ accept (codes "a") ReadWrite (codes "dGhlIHNhbXBsZSBub25jZQ==")
+abbrev page : Field
+page = field (codes "Origin") (codes " https://example.org")
+
+accepted : verdict_of (sample (codes " 13") []) []
+    ≡ accept (codes "a") ReadWrite None (codes "dGhlIHNhbXBsZSBub25jZQ==")
 unfolding trim_ows
 accepted = refl
 
-older_version : verdict_of (sample (codes " 8")) (codes "x") ≡ refuse 426
+accepted_from_a_page : verdict_of (sample (codes " 13") (page ∷ [])) []
+    ≡ accept (codes "a") ReadWrite (Some (codes "https://example.org"))
+    (codes "dGhlIHNhbXBsZSBub25jZQ==")
+unfolding trim_ows
+accepted_from_a_page = refl
+
+-- before the version is looked at
+from_two_pages : verdict_of (sample (codes " 8") (page ∷ page ∷ [])) [] ≡ refuse 400
+unfolding trim_ows
+from_two_pages = refl
+
+older_version : verdict_of (sample (codes " 8") []) (codes "x") ≡ refuse 426
 unfolding trim_ows
 older_version = refl
 
-surplus : verdict_of (sample (codes " 13")) (codes "x") ≡ refuse 400
+surplus : verdict_of (sample (codes " 13") []) (codes "x") ≡ refuse 400
 unfolding trim_ows
 surplus = refl

@@ -10,6 +10,7 @@ use Rattle.relay_http_head.specs.Checks.{first_failed}
 use Rattle.relay_http_head.specs.Head.{only_value, kept, has_element}
 use Rattle.relay_http_head.specs.Parsing.{Parts, parts_of}
 use Rattle.relay_shake.specs.Key.{key_of}
+use Rattle.relay_shake.specs.Origin.{at_most_one_origin, origin_of}
 use Rattle.relay_shake.specs.Route.{asked_of}
 
 -- the checks in their order: the condition, and the status if it fails
@@ -20,6 +21,7 @@ checks head =
     ∷ (is_some (asked_of head.target), 404)
     ∷ (head.minor == 1, 400)
     ∷ (is_some (only_value (codes "Host") head.fields), 400)
+    ∷ (at_most_one_origin head.fields, 400)
     ∷ (has_element (codes "Upgrade") (codes "websocket") head.fields, 400)
     ∷ (has_element (codes "Connection") (codes "Upgrade") head.fields, 400)
     ∷ (is_some (only_value (codes "Sec-WebSocket-Version") head.fields), 400)
@@ -32,23 +34,27 @@ checks head =
     ∷ (not head.has_surplus, 400)
     ∷ []
 
--- wait for more bytes, accept a room, the access to it and a key, or refuse with a status
+-- wait for more bytes, accept a room, the access to it, the origin, if one is named, and a key, or
+-- refuse with a status
 pub data Verdict : Type 0 where
   wait : Verdict
-  accept : List ℕ → Access → List ℕ → Verdict
+  accept : List ℕ → Access → Option (List ℕ) → List ℕ → Verdict
   refuse : ℕ → Verdict
 
--- accept what is asked for and the key if no check failed, else refuse with the status of the first
--- that did
-abbrev pub verdict_by : Option ℕ → Option (List ℕ × Access) → Option (List ℕ) → Verdict
-verdict_by None asked key =
-    let (room, access) = unwrap_or asked ([], ReadOnly) in accept room access (unwrap_or key [])
-verdict_by (Some status) asked key = refuse status
+-- accept what is asked for, the origin and the key if no check failed, else refuse with the status
+-- of the first that did
+abbrev pub verdict_by : Option ℕ → Option (List ℕ × Access) → Option (List ℕ) → Option (List ℕ)
+    → Verdict
+verdict_by None asked origin key =
+    let (room, access) = unwrap_or asked ([], ReadOnly) in
+    accept room access origin (unwrap_or key [])
+verdict_by (Some status) asked origin key = refuse status
 
 -- the verdict on the parts of a head
 abbrev pub verdict_on : Parts → Verdict
 verdict_on head =
-    verdict_by (first_failed (checks head)) (asked_of head.target) (key_of head.fields)
+    verdict_by (first_failed (checks head)) (asked_of head.target) (origin_of head.fields)
+    (key_of head.fields)
 
 -- the verdict on a head that is followed by the surplus bytes
 abbrev pub verdict_of : RequestHead → List ℕ → Verdict

@@ -1,4 +1,5 @@
 pub mod Key
+pub mod Origin
 pub mod Route
 pub mod Replies
 pub mod Handshake

@@ -18,12 +18,13 @@ accept_reply key =
 -- the statuses of refusals
 abbrev pub is_refusal : ℕ → Bool
 is_refusal status =
-    status == 400 || status == 404 || status == 405 || status == 426 || status == 431
-    || status == 503
+    status == 400 || status == 403 || status == 404 || status == 405 || status == 426
+    || status == 431 || status == 503
 
 -- a status with its phrase (RFC 9110, section 15; RFC 6585, section 5)
 abbrev pub status_text : ℕ → List ℕ
 status_text status =
+    if status == 403 then codes "403 Forbidden" else
     if status == 404 then codes "404 Not Found" else
     if status == 405 then codes "405 Method Not Allowed" else
     if status == 426 then codes "426 Upgrade Required" else

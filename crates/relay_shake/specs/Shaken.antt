@@ -1,5 +1,5 @@
 -- The answer to the bytes received so far.
-use Rattle.std.specs.Prelude.{◌≡◌, ◌⊎◌, ℕ, List, ◌++◌, drop, string_bytes}
+use Rattle.std.specs.Prelude.{◌≡◌, ◌⊎◌, ℕ, List, ◌++◌, drop, option_map, string_bytes}
 use Rattle.httparse.specs.Grammar.{RequestHead, ReadsRequest, HasNoRequest, NeverHasRequest}
 use Rattle.httparse.specs.Grammar.{MayBecomeRequest}
 use Rattle.relay_shake.specs.declared.reading.TheConstants.{MAX_HEAD}
@@ -12,8 +12,9 @@ use Rattle.relay_shake.specs.declared.answer.Shake.TheVariants.{More, Accept, Re
 -- an answer is the verdict, with each byte of its reply
 abbrev pub Shows : Shake → Verdict → Type 0
 Shows More wait = Unit {0}
-Shows (Accept room access reply) (accept name asked key) =
-    (string_bytes room ≡ name) × (access ≡ asked) × (reply.items ≡ accept_reply key)
+Shows (Accept room access origin reply) (accept name asked named key) =
+    (string_bytes room ≡ name) × (access ≡ asked) × (option_map string_bytes origin ≡ named)
+    × (reply.items ≡ accept_reply key)
 Shows (Refuse status reply) (refuse other) = (status ≡ other) × (reply.items ≡ refusal_of other)
 Shows _ _ = ⊥
 

@@ -21,6 +21,10 @@ pub enum Shake {
         room: String,
         /// The access of the session there, by the target.
         access: Access,
+        /// The value of the field `Origin`, if the head has one: printable ASCII, in the case in
+        /// which it came. A browser names the origin of the page that connects; other clients need
+        /// not (RFC 6455, section 4.1). The caller decides which pages may enter (section 10.2).
+        origin: Option<String>,
         /// The 101 reply, to be sent whole.
         reply: Vec<u8>,
     },

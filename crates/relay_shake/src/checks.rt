@@ -5,6 +5,7 @@ ghost use Rattle.relay_shake.specs.Judged.{Judges, HasReply};
 ghost use Rattle.relay_shake.specs.Handshake.{verdict_on};
 
 use crate::key::key_of;
+use crate::origin::{has_at_most_one_origin, origin_of};
 use crate::route::asked_of;
 use relay_access::Access;
 use relay_http_head::{Fault, Head, demand, has_element, only_value};
@@ -13,11 +14,12 @@ use std::alloc::Global;
 /// The most header fields of a head.
 pub(crate) const MAX_FIELDS: usize = 32;
 
-/// The request of an accepted head, and its key.
+/// The request of an accepted head, its origin, if it names one, and its key.
 #[derive(Drop)]
 pub(crate) struct Accepted<'b> {
     pub room: &'b str,
     pub access: Access,
+    pub origin: Option<&'b str>,
     pub key: &'b [u8],
 }
 
@@ -31,6 +33,7 @@ pub(crate) fn judge<'b>(alloc: Global, head: &Head<'_, 'b>) -> Result<Accepted<'
     let asked = asked_of(alloc, head.target)?.ok_or(Fault::Refused(404))?;
     demand(head.minor == 1, 400)?;
     demand(only_value(head.fields, "Host").is_some(), 400)?;
+    demand(has_at_most_one_origin(head.fields), 400)?;
     demand(has_element(head.fields, "Upgrade", "websocket"), 400)?;
     demand(has_element(head.fields, "Connection", "Upgrade"), 400)?;
     let version = only_value(head.fields, "Sec-WebSocket-Version").ok_or(Fault::Refused(400))?;
@@ -41,6 +44,7 @@ pub(crate) fn judge<'b>(alloc: Global, head: &Head<'_, 'b>) -> Result<Accepted<'
     Ok(Accepted {
         room: asked.room,
         access: asked.access,
+        origin: origin_of(head.fields),
         key,
     })
 }

@@ -12,6 +12,7 @@
 mod answer;
 mod checks;
 mod key;
+mod origin;
 mod reading;
 mod reply;
 mod route;

@@ -1,5 +1,5 @@
 //! The path from bytes to a head, and from the head to the answer.
-ghost use Rattle.std.specs.Prelude.{IfOk, IsTrue};
+ghost use Rattle.std.specs.Prelude.{◌≡◌, IfOk, IsTrue, option_copied, option_map, string_bytes};
 ghost use Rattle.relay_http_head.specs.Parsing.{parts};
 ghost use Rattle.relay_shake.specs.Handshake.{verdict_on, refuse};
 ghost use Rattle.relay_shake.specs.Replies.{is_refusal};
@@ -29,14 +29,15 @@ pub(crate) const MAX_HEAD_FIELDS: usize = 2_730;
 ///    else 404; with `/watch` the session may only watch;
 /// 4. HTTP/1.1, else 400;
 /// 5. one field `Host`, else 400;
-/// 6. the element `websocket` in a field `Upgrade`, else 400;
-/// 7. the element `Upgrade` in a field `Connection`, else 400;
-/// 8. one field `Sec-WebSocket-Version`, else 400; its value is `13`, else 426;
-/// 9. one field `Sec-WebSocket-Key`, whose value is 16 bytes in base64, else 400;
-/// 10. no byte after the head, since a client must wait for the reply, else 400.
+/// 6. no field `Origin`, or one, whose value is printable ASCII, else 400;
+/// 7. the element `websocket` in a field `Upgrade`, else 400;
+/// 8. the element `Upgrade` in a field `Connection`, else 400;
+/// 9. one field `Sec-WebSocket-Version`, else 400; its value is `13`, else 426;
+/// 10. one field `Sec-WebSocket-Key`, whose value is 16 bytes in base64, else 400;
+/// 11. no byte after the head, since a client must wait for the reply, else 400.
 ///
-/// A head that passes is accepted, and other headers are ignored: no extension and no subprotocol
-/// is negotiated.
+/// A head that passes is accepted, whichever origin it names, and other headers are ignored: no
+/// extension and no subprotocol is negotiated.
 ///
 /// If there is no head but one can still come, the answer is [`Shake::More`], or 431 after more
 /// than 8,192 bytes. If none can come, it is 400. One case is left open: if the bytes end in a
@@ -79,10 +80,20 @@ fn answer(alloc: Global, head: &Head<'_, '_>) -> Result<Shake, AllocError>
         Ok(accepted) => Ok(Shake::Accept {
             room: String::from_str(alloc, accepted.room)?,
             access: accepted.access,
+            origin: owned(alloc, accepted.origin)?,
             reply: accept_reply(alloc, accepted.key)?,
         }),
         Err(Fault::Refused(status)) => refused(alloc, status),
         Err(Fault::NoMemory) => Err(AllocError),
+    }
+}
+
+fn owned(alloc: Global, text: Option<&str>) -> Result<Option<String>, AllocError>
+    ensures { IfOk result (λ owned. option_map string_bytes owned ≡ option_copied text.entry) }
+{
+    match text {
+        Some(text) => Ok(Some(String::from_str(alloc, text)?)),
+        None => Ok(None),
     }
 }
 

@@ -37,9 +37,9 @@ fn accept_value(alloc: Global, key: &[u8]) -> Result<String, AllocError>
 
 /// Returns the reply that refuses a handshake, after which the socket is closed.
 ///
-/// The status is one of 400, 404, 405, 426 and 431, as in [`crate::Shake::Refuse`], or 503 if the
-/// relay has no place for another session. Returns `AllocError` if memory runs out. See
-/// `docs/PROTOCOL.md`, "The handshake".
+/// The status is one of 400, 404, 405, 426 and 431, as in [`crate::Shake::Refuse`], 403 if pages of
+/// the origin may not enter (RFC 6455, section 4.2.2), or 503 if the relay has no place for another
+/// session. Returns `AllocError` if memory runs out. See `docs/PROTOCOL.md`, "The handshake".
 ///
 /// ```
 /// let reply = refusal(alloc, 404).ok()?;

@@ -7,8 +7,8 @@ use std::alloc::{AllocError, Global};
 impl Wire {
     /// Does what a client or its stream does, and says whether the words are understood:
     ///
-    /// - `asks VERSION TARGET`: a handshake arrives (RFC 6455, section 4.1), with the key of the
-    ///   RFC's sample;
+    /// - `asks VERSION TARGET` or `asks VERSION TARGET ORIGIN`: a handshake arrives (RFC 6455,
+    ///   section 4.1), with the key of the RFC's sample, of a page of that origin if one is named;
     /// - `says TEXT` or `pads N TEXT`: a text message arrives, or one that blanks make so many
     ///   bytes long;
     /// - `stretches N TEXT`: a text message arrives in which so many letters `x` stand for each
@@ -42,10 +42,17 @@ impl Wire {
     }
 
     fn ask(&mut self, alloc: Global, words: &str) -> Result<(), AllocError> {
-        let (version, target) = cut(words);
+        let (version, words) = cut(words);
+        let (target, origin) = cut(words);
+        let field = if origin.is_empty() {
+            String::new(alloc)
+        } else {
+            format!(in alloc; "Origin: {origin}\r\n")?
+        };
         let head = format!(in alloc;
             "GET {target} HTTP/1.1\r\n\
              Host: localhost\r\n\
+             {field}\
              Upgrade: websocket\r\n\
              Connection: keep-alive, Upgrade\r\n\
              Sec-WebSocket-Key: dGhlIHNhbXBsZSBub25jZQ==\r\n\

@@ -3,7 +3,7 @@
 use std::alloc::{AllocError, Global};
 
 /// The replies that the protocol spells out, and their names in rows.
-const REPLIES: [(&str, &str); 4] = [
+const REPLIES: [(&str, &str); 6] = [
     (
         "switched",
         "HTTP/1.1 101 Switching Protocols\r\n\
@@ -18,6 +18,14 @@ const REPLIES: [(&str, &str); 4] = [
          Sec-WebSocket-Version: 13\r\n\
          Content-Length: 0\r\n\
          Connection: close, Upgrade\r\n\r\n",
+    ),
+    (
+        "forbidden",
+        "HTTP/1.1 403 Forbidden\r\nContent-Length: 0\r\nConnection: close\r\n\r\n",
+    ),
+    (
+        "not found",
+        "HTTP/1.1 404 Not Found\r\nContent-Length: 0\r\nConnection: close\r\n\r\n",
     ),
     (
         "unavailable",

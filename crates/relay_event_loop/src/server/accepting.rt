@@ -4,7 +4,7 @@ ghost use Rattle.relay_event_loop.specs.Advances.{KeepsFewer, KeepsWithin, HasNo
 
 use super::Server;
 use crate::connection::Connection;
-use crate::connection_log::ConnectionLog;
+use crate::connection_log::{ConnectionLog, LogEntry};
 use crate::eviction_log::EvictionLog;
 use indexmap::IndexMap;
 use relay_link::EndCause;
@@ -12,10 +12,45 @@ use relay_operator::Readiness;
 use relay_schedule::Credit;
 use std::alloc::{AllocError, Global};
 use std::io::{ErrorKind, Read, Write};
-use std::net::{OpenListener, OpenStream, SocketAddr};
+use std::net::{IpAddr, OpenListener, OpenStream, SocketAddr};
 
 /// The maximum number of connections that a round accepts.
 const MAX_ACCEPTS: u32 = 8;
+
+/// The order in which connections without a session make room for a new one.
+#[derive(Clone, Copy)]
+struct Precedence {
+    is_of_another: bool,
+    has_sent: bool,
+    arrival: u64,
+}
+
+impl Precedence {
+    /// Behind every connection.
+    const LAST: Precedence = Precedence {
+        is_of_another: true,
+        has_sent: true,
+        arrival: u64::MAX,
+    };
+
+    fn of<S: Read + Write + Drop>(connection: &Connection<S>, address: IpAddr) -> Precedence {
+        Precedence {
+            is_of_another: connection.address() != address,
+            has_sent: connection.has_sent,
+            arrival: connection.arrival,
+        }
+    }
+
+    fn is_before(self, other: Precedence) -> bool {
+        if self.is_of_another != other.is_of_another {
+            return other.is_of_another;
+        }
+        if self.has_sent != other.has_sent {
+            return other.has_sent;
+        }
+        self.arrival < other.arrival
+    }
+}
 
 impl<S: Read + Write + OpenStream + Drop, R: Readiness<S>> Server<S, R> {
     /// Accepts waiting connections.
@@ -33,10 +68,7 @@ impl<S: Read + Write + OpenStream + Drop, R: Readiness<S>> Server<S, R> {
                 return;
             }
             match listener.accept() {
-                Ok((stream, peer)) => {
-                    self.evict(alloc, log);
-                    self.enter(alloc, stream, peer, log);
-                }
+                Ok((stream, peer)) => self.welcome(alloc, stream, peer, log),
                 Err(error) => {
                     self.accept_ready = false;
                     self.accept_failed = error.kind() != ErrorKind::WouldBlock;
@@ -45,30 +77,64 @@ impl<S: Read + Write + OpenStream + Drop, R: Readiness<S>> Server<S, R> {
         }
     }
 
-    /// If the maximum number of connections is held, ends the oldest one without a session.
+    /// Makes room for a new connection, and holds it. It is rejected if its address has as many as
+    /// it may.
     #[tactic(auto, using(crate::proofs::Rules::advances))]
-    fn evict<J: ConnectionLog>(&mut self, alloc: Global, log: &mut J)
+    fn welcome<J: ConnectionLog>(&mut self, alloc: Global, stream: S, peer: SocketAddr, log: &mut J)
+        ensures { KeepsWithin S.remaining S.contents self.old self.new }
+    {
+        if self.has_as_many_as_may(peer.ip()) {
+            log.record(LogEntry::Rejected { peer });
+            return;
+        }
+        self.evict(alloc, peer.ip(), log);
+        self.enter(alloc, stream, peer, log);
+    }
+
+    /// True if as many connections of an address are held as may be.
+    fn has_as_many_as_may(&self, address: IpAddr) -> bool {
+        if self.max_per_peer > self.connections.len() as u64 {
+            return false;
+        }
+        let mut count: u64 = 0;
+        for key in 0..self.key_limit() {
+            if let Some(connection) = self.connections.get(key) {
+                if connection.address() == address {
+                    count = count.saturating_add(1);
+                }
+            }
+        }
+        count >= self.max_per_peer
+    }
+
+    /// If the maximum number of connections is held, ends one without a session, for a new one of
+    /// an address.
+    #[tactic(auto, using(crate::proofs::Rules::advances))]
+    fn evict<J: ConnectionLog>(&mut self, alloc: Global, address: IpAddr, log: &mut J)
         ensures { KeepsFewer S.remaining S.contents self.old self.new }
     {
         if self.connections.len() < self.max_connections {
             return;
         }
-        if let Some(key) = self.oldest_without_session() {
+        if let Some(key) = self.first_to_evict(address) {
             self.end_link(alloc, key, EndCause::Ended, &mut EvictionLog::to(log));
         }
     }
 
-    /// The key of the oldest connection without a session.
-    fn oldest_without_session(&self) -> Option<usize>
+    /// The key of the connection that makes room for a new one of an address: of those without a
+    /// session one of the same address, if there is one, and of these the oldest that has sent
+    /// nothing, or else the oldest. So whoever opens many makes room for them with its own.
+    fn first_to_evict(&self, address: IpAddr) -> Option<usize>
         ensures { IfSome result (λ key. HasNoSession (links_of self.now.connections) key) }
     {
         let mut first = None;
-        let mut least = u64::MAX;
+        let mut least = Precedence::LAST;
         for key in 0..self.key_limit() {
             if let Some(connection) = self.connections.get(key) {
-                if connection.has_no_session() && connection.arrival < least {
+                let precedence = Precedence::of(connection, address);
+                if connection.has_no_session() && precedence.is_before(least) {
                     first = Some(key);
-                    least = connection.arrival;
+                    least = precedence;
                 }
             }
         }

@@ -100,7 +100,7 @@ where
         let has_more = admin.accept(alloc, &mut self.readiness);
         let view = AdminView {
             hub: &self.hub,
-            is_closed: self.entrance.is_closed(),
+            is_closed: self.rules.entrance.is_closed(),
             wanted: self.wanted.as_slice(),
             left: self.vacancies.empty.as_slice(),
             second: self.seconds,

@@ -13,7 +13,7 @@ use indexmap::IndexMap;
 use relay_hub::{Event, OpenFault};
 use relay_link::{DrawStop, EndCause, Stage, Turn};
 use relay_operator::Readiness;
-use relay_schedule::LinkOutput;
+use relay_schedule::{CROWDED_PATIENCE, LinkOutput, PATIENCE};
 use std::alloc::Global;
 use std::io::{Read, Write};
 use std::net::OpenStream;
@@ -21,6 +21,24 @@ use std::net::OpenStream;
 /// The maximum number of links that are ended in a second, so that the others have room for their
 /// output.
 const MAX_ENDS: u32 = 64;
+
+/// Links that may be ended so that others have room for their output.
+#[derive(Clone, Copy)]
+enum Holds {
+    /// Output waits, and its stream takes it too slowly for so little room.
+    Unsent,
+    /// Everything was sent.
+    Nothing,
+}
+
+impl Holds {
+    fn includes(self, output: LinkOutput, second: u64) -> bool {
+        match self {
+            Holds::Unsent => output.is_over_due(second, CROWDED_PATIENCE),
+            Holds::Nothing => output.unsent == 0,
+        }
+    }
+}
 
 /// So many rounds, at least, lie between two entries of the log that say that memory was refused.
 const SHED_ROUNDS: u64 = 1_024;
@@ -111,17 +129,50 @@ impl<S: Read + Write + OpenStream + Drop, R: Readiness<S>> Server<S, R> {
         self.output.change(before, connection.standing().output);
     }
 
-    /// Once a second, if links hold as much output as they may, ends at most [`MAX_ENDS`] of them,
-    /// until half of the limit is free. The largest buffer goes first. Only a link that holds the
-    /// average of all links at least is ended, and only if it has sent everything, or its stream
-    /// takes it too slowly ([`LinkOutput::is_over_due`]).
+    /// Once a second, ends the links whose streams take their output too slowly
+    /// ([`LinkOutput::is_over_due`]), and if the reserve of output is in use, those that hold much.
     #[tactic(auto, using(crate::proofs::Rules::advances))]
     pub(super) fn relieve<J: ConnectionLog>(&mut self, alloc: Global, before: u64, log: &mut J)
         ensures { KeepsFewer S.remaining S.contents self.old self.new }
     {
-        if self.seconds == before || !self.output.is_full() {
+        if self.seconds == before {
             return;
         }
+        self.end_slow(alloc, log);
+        if self.output.is_crowded() {
+            self.end_fullest(alloc, log);
+        }
+    }
+
+    /// Ends the links whose streams take their output too slowly.
+    #[tactic(auto, using(crate::proofs::Rules::advances))]
+    fn end_slow<J: ConnectionLog>(&mut self, alloc: Global, log: &mut J)
+        ensures { KeepsFewer S.remaining S.contents self.old self.new }
+    {
+        for key in 0..self.key_limit() {
+            if self.is_slow(key) {
+                self.end_link(alloc, key, EndCause::Slow, log);
+            }
+        }
+    }
+
+    /// True if a connection is held whose stream takes its output too slowly.
+    fn is_slow(&self, key: usize) -> bool {
+        match self.connections.get(key) {
+            Some(connection) => connection
+                .standing()
+                .output
+                .is_over_due(self.seconds, PATIENCE),
+            None => false,
+        }
+    }
+
+    /// Ends at most [`MAX_ENDS`] links, until half of the limit on output is free. The largest
+    /// buffer goes first.
+    #[tactic(auto, using(crate::proofs::Rules::advances))]
+    fn end_fullest<J: ConnectionLog>(&mut self, alloc: Global, log: &mut J)
+        ensures { KeepsFewer S.remaining S.contents self.old self.new }
+    {
         for _ in 0..MAX_ENDS {
             match self.first_to_end() {
                 Some(key) if !self.output.is_relieved() => {
@@ -132,15 +183,25 @@ impl<S: Read + Write + OpenStream + Drop, R: Readiness<S>> Server<S, R> {
         }
     }
 
-    /// The key of the connection that holds the most output, at least the average of all, among
-    /// those of which nothing waits, or too little was taken.
+    /// The key of the connection that is ended first so that others have room for their output: of
+    /// those whose streams take it too slowly the one that holds most, or else of those that have
+    /// sent everything.
     fn first_to_end(&self) -> Option<usize> {
+        match self.fullest(Holds::Unsent) {
+            Some(key) => Some(key),
+            None => self.fullest(Holds::Nothing),
+        }
+    }
+
+    /// The key of the connection that holds the most output, at least the average of all, among
+    /// those of one kind.
+    fn fullest(&self, kind: Holds) -> Option<usize> {
         let mut first = None;
         let mut most = self.output.share(self.connections.len()).saturating_sub(1);
         for key in 0..self.key_limit() {
             if let Some(connection) = self.connections.get(key) {
                 let output = connection.standing().output;
-                if output.held > most && output.is_over_due(self.seconds) {
+                if output.held > most && kind.includes(output, self.seconds) {
                     first = Some(key);
                     most = output.held;
                 }

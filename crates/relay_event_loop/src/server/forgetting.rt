@@ -7,7 +7,7 @@
 ghost use Rattle.std.specs.Prelude.{◌≡◌, false, true};
 ghost use Rattle.relay_event_loop.specs.Advances.{KeepsFewer};
 ghost use Rattle.relay_event_loop.specs.Connections.{connections_of, limit_of, hub_of, made_by};
-ghost use Rattle.relay_event_loop.specs.Connections.{entrance_of};
+ghost use Rattle.relay_event_loop.specs.Connections.{entrance_of, origins_of, peer_limit_of};
 ghost use Rattle.relay_event_loop.specs.Limits.{forgets_rooms, output_limit_of};
 ghost use Rattle.relay_event_loop.specs.Rounds.{RoundsOf};
 
@@ -60,6 +60,8 @@ impl<S: Read + Write + OpenStream + Drop, R: Readiness<S>> Server<S, R> {
         ensures rounds { RoundsOf S.remaining S.contents self.old self.new }
         ensures forgets { forgets_rooms self.new ≡ true }
         ensures entrance { entrance_of self.new ≡ entrance_of self.old }
+        ensures origins { origins_of self.new ≡ origins_of self.old }
+        ensures per_peer { peer_limit_of self.new ≡ peer_limit_of self.old }
         ensures output { output_limit_of self.new ≡ output_limit_of self.old }
     {
         self.vacancies.is_enabled = true;

@@ -43,7 +43,7 @@ impl<S: Read + Write + OpenStream + Drop, R: Readiness<S>> Server<S, R> {
         self.accept_ready
             || self.hub.has_wills()
             || self.queues.has_work()
-            || (self.queues.held_back() > 0 && !self.output.is_full())
+            || (self.queues.held_back() > 0 && !self.output.is_crowded())
     }
 
     /// The event at an index.

@@ -3,7 +3,7 @@ ghost use Rattle.relay_event_loop.specs.Advances.{KeepsFewer};
 
 use super::Server;
 use crate::connection_log::ConnectionLog;
-use relay_link::Turn;
+use relay_link::{Turn, Watchers};
 use relay_operator::Readiness;
 use relay_schedule::{Output, Spending};
 use std::alloc::Global;
@@ -149,10 +149,24 @@ impl<S: Read + Write + OpenStream + Drop, R: Readiness<S>> Server<S, R> {
             self.skip(key);
             return 0;
         };
+        self.renew_rules();
         let counted = self.read_link(alloc, key, draws, log);
         let cost = self.charge(key, counted);
         self.queue(key);
         cost
+    }
+
+    /// Sees to it that sessions that only watch do not take the last quarter of those that may be.
+    #[tactic(auto, using(crate::proofs::Rules::advances))]
+    fn renew_rules(&mut self)
+        ensures { KeepsFewer S.remaining S.contents self.old self.new }
+    {
+        let most = self.hub.config().sessions;
+        self.rules.watchers = if (self.sessions.len() as u64) < most - most / 4 {
+            Watchers::Join
+        } else {
+            Watchers::Wait
+        };
     }
 
     /// Queues a connection that had no turn: if it wants one later, before those that had one.
@@ -230,12 +244,14 @@ impl<S: Read + Write + OpenStream + Drop, R: Readiness<S>> Server<S, R> {
         let before = connection.link.stage();
         let Ok(mut turn) = connection
             .link
-            .read_turn(alloc, &self.entrance, &mut self.hub, draws)
+            .read_turn(alloc, &self.rules, &mut self.hub, draws)
         else {
             self.shed(log);
             return TURN_COST;
         };
-        let cost = cost_of(&turn, connection.readiness.take_read());
+        let read = connection.readiness.take_read();
+        let cost = cost_of(&turn, read);
+        connection.has_sent |= read > 0;
         connection.read_pending = connection.readiness.may_go_on();
         self.wanted.note(turn.turned_away.take());
         self.finish_turn(key, before, &turn, log);

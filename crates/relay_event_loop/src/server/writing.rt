@@ -46,7 +46,7 @@ impl<S: Read + Write + OpenStream + Drop, R: Readiness<S>> Server<S, R> {
     {
         self.lap();
         self.write_each(alloc, Output::Corked, log);
-        if !self.output.is_full() {
+        if !self.output.is_crowded() {
             self.release();
         }
         self.write_each(alloc, Output::Waiting, log);
@@ -121,12 +121,13 @@ impl<S: Read + Write + OpenStream + Drop, R: Readiness<S>> Server<S, R> {
 
     /// The number of messages that a write turn for such output may draw, if there may be something
     /// to write. A long snapshot is not drawn in three cases: for corked output, for a peer that
-    /// has closed, and while the links hold as much output as they may.
+    /// has closed, and while the links hold so much output that there is no room for it.
     fn draws(&self, key: usize, output: Output) -> Option<u64> {
         let connection = self.connections.get(key)?;
         let ready = connection.readiness.ready();
         let is_ending = ready.is_over && ready.readable;
-        let may_draw_all = output == Output::Waiting && !is_ending && !self.output.is_full();
+        let has_room = self.output.has_room_for(connection.standing().output);
+        let may_draw_all = output == Output::Waiting && !is_ending && has_room;
         if may_draw_all || self.has_no_long_snapshot(connection) {
             return Some(MAX_DRAWS);
         }

@@ -1,22 +1,23 @@
 -- The room and the access are those that the head asks for: the bytes received before, and those
 -- that the read took.
-use Rattle.std.proofs.Common.{rules, ◌≡◌, ◌≤◌, ℕ, List, true, false, length, take, string_bytes}
-use Rattle.std.proofs.Common.{Some, sym, ap, is_err, ◌∙◌, subst}
+use Rattle.std.proofs.Common.{rules, ◌≡◌, ◌≤◌, ℕ, List, false, length, take, string_bytes}
+use Rattle.std.proofs.Common.{Some, None, option_map, sym, ap, is_err, ◌∙◌, subst}
 use Rattle.std.specs.Io.KnownBytes.{Consumes}
 use Rattle.relay_access.specs.declared.access.Access.{Access}
 use Rattle.relay_link.specs.Asks.{Asks, Receives}
-use Rattle.relay_link.specs.Entrance.{lets_in, Within}
+use Rattle.relay_link.specs.EntryRules.{Within, denial}
 use Rattle.relay_link.specs.Follows.{is_room}
 use Rattle.relay_link.specs.Stream.{stream_of}
 use Rattle.relay_link.specs.declared.head.TheConstants.{MAX_READ}
 use Rattle.relay_link.specs.declared.state.State.TheVariants.{Head}
+use Rattle.relay_link.proofs.Denying.{within_rules}
 use Rattle.relay_link.proofs.Following.{follows_wider}
 use Rattle.relay_link.proofs.Heads.{extended, asks_with}
-use Rattle.relay_link.proofs.Replying.{replies_closed, replies_head, replies_refuse}
+use Rattle.relay_link.proofs.Replying.{replies_denied, replies_head, replies_refuse}
 use Rattle.relay_link.proofs.head.listen.Goals as goal
 
-pub returns-then-lets_in-clause-follows : goal.returns-then-lets_in-clause-follows
-returns-then-lets_in-clause-follows g c = follows_wider asks c.admit.ensures.follows
+pub returns-in-None-clause-follows : goal.returns-in-None-clause-follows
+returns-in-None-clause-follows g c = follows_wider asks c.admit.ensures.follows
   where
     asks : (room : List ℕ) (access : Access)
         → is_room (string_bytes c.in-Ok-Accept.room) c.in-Ok-Accept.access room access
@@ -39,16 +40,20 @@ returns-then-lets_in-clause-follows g c = follows_wider asks c.admit.ensures.fol
         (ap Some (ap (λ r. (r, c.in-Ok-Accept.access)) (sym name)
         ∙ ap (λ a. (room, a)) (sym given))))
 
--- Clients may enter the room.
-pub returns-then-lets_in-clause-entrance : goal.returns-then-lets_in-clause-entrance
-returns-then-lets_in-clause-entrance g c = follows_wider within c.admit.ensures.follows
+-- The rules let the session be opened there.
+pub returns-in-None-clause-entrance : goal.returns-in-None-clause-entrance
+returns-in-None-clause-entrance g c = follows_wider within c.admit.ensures.follows
   where
     within : (room : List ℕ) (access : Access)
         → is_room (string_bytes c.in-Ok-Accept.room) c.in-Ok-Accept.access room access
-        → Within c.args.entrance.now room access
+        → Within c.args.rules.now c.args.hub.now room access
     within room access (name, given) =
-        let enters : lets_in c.args.entrance.now (string_bytes c.in-Ok-Accept.room) ≡ true =
-        search rules in ap (lets_in c.args.entrance.now) name ∙ enters
+        let enters : denial c.args.rules.now c.args.hub.now (string_bytes c.in-Ok-Accept.room)
+        c.in-Ok-Accept.access (option_map string_bytes c.in-Ok-Accept.origin) ≡ None =
+        search rules in
+        rw (name, given)
+        (within_rules c.args.rules.now c.args.hub.now (string_bytes c.in-Ok-Accept.room)
+        c.in-Ok-Accept.access (option_map string_bytes c.in-Ok-Accept.origin) enters)
 
 -- The head is not whole: the bytes that the read took are held.
 pub returns-in-Ok-More-clause-received : goal.returns-in-Ok-More-clause-received
@@ -65,35 +70,42 @@ returns-in-Ok-More-clause-received g c =
     (sym c.on-in-Ok-More.ensures) (taken, first, grown)
 
 -- The head is whole: the reply is the answer to those bytes.
-pub returns-then-lets_in-clause-replies : goal.returns-then-lets_in-clause-replies
-returns-then-lets_in-clause-replies g c =
-    let enters : lets_in c.args.entrance.now (string_bytes c.in-Ok-Accept.room) ≡ true =
+pub returns-in-None-clause-replies : goal.returns-in-None-clause-replies
+returns-in-None-clause-replies g c =
+    let enters : denial c.args.rules.now c.args.hub.now (string_bytes c.in-Ok-Accept.room)
+    c.in-Ok-Accept.access (option_map string_bytes c.in-Ok-Accept.origin) ≡ None =
     search rules in
-    replies_head g.S.Read.remaining g.S.Write.contents c.args.entrance.now c.args.stream
-    c.read.new.self c.args.bytes c.extend_from_slice.result _ c.extend_from_slice.new.self.items
-    (take c.in-Ok.len c.read.new.buf) c.in-Ok-Accept.field-0 _ (search rules)
-    c.as_slice.ensures.value c.extend_from_slice.ensures.items c.in-Ok.ensures.bytes.0
-    c.in-Ok-Accept.ensures.head c.in-Ok-Accept.ensures.no_head
-    (rw c.in-Ok-Accept.field-0-is (c.admit.ensures.replies c.args.entrance.now enters))
-
--- The same for a room in which clients may not enter.
-pub returns-in-Ok-Accept-clause-replies : goal.returns-in-Ok-Accept-clause-replies
-returns-in-Ok-Accept-clause-replies g c =
-    let stays_out : lets_in c.args.entrance.now (string_bytes c.in-Ok-Accept.room) ≡ false =
-    search rules in
-    replies_head g.S.Read.remaining g.S.Write.contents c.args.entrance.now c.args.stream
-    c.read.new.self c.args.bytes c.extend_from_slice.result _ c.extend_from_slice.new.self.items
-    (take c.in-Ok.len c.read.new.buf) c.in-Ok-Accept.field-0 _ (search rules)
+    replies_head g.S.Read.remaining g.S.Write.contents (denial c.args.rules.now c.args.hub.now)
+    c.args.stream c.read.new.self c.args.bytes c.extend_from_slice.result _
+    c.extend_from_slice.new.self.items (take c.in-Ok.len c.read.new.buf) c.in-Ok-Accept.field-0 _
+    (search rules)
     c.as_slice.ensures.value c.extend_from_slice.ensures.items c.in-Ok.ensures.bytes.0
     c.in-Ok-Accept.ensures.head c.in-Ok-Accept.ensures.no_head
     (rw c.in-Ok-Accept.field-0-is
-    (replies_closed g.S.Write.contents _ _ _ _ _ _ stays_out c.turn_away.ensures.writes))
+    (c.admit.ensures.replies (denial c.args.rules.now c.args.hub.now) c.in-Ok-Accept.origin
+    enters))
+
+-- The same for a handshake that the rules deny.
+pub returns-in-Ok-Accept-clause-replies : goal.returns-in-Ok-Accept-clause-replies
+returns-in-Ok-Accept-clause-replies g c =
+    let denied : denial c.args.rules.now c.args.hub.now (string_bytes c.in-Ok-Accept.room)
+    c.in-Ok-Accept.access (option_map string_bytes c.in-Ok-Accept.origin)
+    ≡ Some c.in-Some.reason =
+    search rules in
+    replies_head g.S.Read.remaining g.S.Write.contents (denial c.args.rules.now c.args.hub.now)
+    c.args.stream c.read.new.self c.args.bytes c.extend_from_slice.result _
+    c.extend_from_slice.new.self.items (take c.in-Ok.len c.read.new.buf) c.in-Ok-Accept.field-0 _
+    (search rules) c.as_slice.ensures.value c.extend_from_slice.ensures.items
+    c.in-Ok.ensures.bytes.0 c.in-Ok-Accept.ensures.head c.in-Ok-Accept.ensures.no_head
+    (rw c.in-Ok-Accept.field-0-is
+    (replies_denied g.S.Write.contents _ _ _ _ _ _ _ _ denied c.turn_away.ensures.writes))
 
 pub returns-in-Ok-Refuse-clause-replies : goal.returns-in-Ok-Refuse-clause-replies
 returns-in-Ok-Refuse-clause-replies g c =
-    replies_head g.S.Read.remaining g.S.Write.contents c.args.entrance.now c.args.stream
-    c.read.new.self c.args.bytes c.extend_from_slice.result _ c.extend_from_slice.new.self.items
-    (take c.in-Ok.len c.read.new.buf) c.in-Ok-Refuse.field-0 _ (search rules)
+    replies_head g.S.Read.remaining g.S.Write.contents (denial c.args.rules.now c.args.hub.now)
+    c.args.stream c.read.new.self c.args.bytes c.extend_from_slice.result _
+    c.extend_from_slice.new.self.items (take c.in-Ok.len c.read.new.buf) c.in-Ok-Refuse.field-0 _
+    (search rules)
     c.as_slice.ensures.value c.extend_from_slice.ensures.items c.in-Ok.ensures.bytes.0
     c.in-Ok-Refuse.ensures.head c.in-Ok-Refuse.ensures.no_head
     (rw c.in-Ok-Refuse.field-0-is

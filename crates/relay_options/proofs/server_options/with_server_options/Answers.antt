@@ -31,4 +31,6 @@ returns c =
     let ten = option_added _ _ _ _ _ nine c.log.ensures refl c.in_ok-arg-10.ensures in
     let eleven = option_added _ _ _ _ _ ten c.forget_rooms.ensures refl c.in_ok-arg-11.ensures in
     let twelve = option_added _ _ _ _ _ eleven c.closed.ensures refl c.in_ok-arg-12.ensures in
-    option_added _ _ _ _ _ twelve c.output.ensures refl c.in_ok-command.ensures
+    let thirteen = option_added _ _ _ _ _ twelve c.output.ensures refl c.in_ok-arg-13.ensures in
+    let fourteen = option_added _ _ _ _ _ thirteen c.origin.ensures refl c.in_ok-arg-14.ensures in
+    option_added _ _ _ _ _ fourteen c.per_peer.ensures refl c.in_ok-command.ensures

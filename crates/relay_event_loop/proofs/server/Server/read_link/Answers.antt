@@ -1,5 +1,6 @@
 -- The link makes a turn, or nothing changes.
 use Rattle.std.proofs.Common.{sym, inr}
+use Rattle.relay_link.specs.EntryRules.{denial}
 use Rattle.relay_event_loop.proofs.Advancing.{advances_then}
 use Rattle.relay_event_loop.proofs.Held.{turned, unmoved, no_more, no_more_then}
 use Rattle.relay_event_loop.proofs.server.Server.read_link.Goals as goal
@@ -9,7 +10,8 @@ returns g c = (
   (
     c.finish_turn.ensures.0.0,
     advances_then (turned c.args.self.now.connections c.args.key c.in-Some.connection.now _
-        (sym c.in-Some.ensures.value) _ _ _ c.args.self.now.entrance c.in-Ok.ensures.turns.follows
+        (sym c.in-Some.ensures.value) _ _ _ (denial c.args.self.now.rules c.args.self.now.hub)
+        c.in-Ok.ensures.turns.follows
         c.in-Ok.ensures.turns.received c.in-Ok.ensures.turns.passes
         (inr c.in-Ok.ensures.frames) c.in-Ok.ensures.replies) c.finish_turn.ensures.0.1,
   ),

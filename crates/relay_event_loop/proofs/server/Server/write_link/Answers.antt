@@ -1,7 +1,7 @@
 -- The link makes a turn, or nothing changes.
 use Rattle.std.proofs.Common.{sym, inl}
 use Rattle.relay_link.proofs.Hearing.{passes_wider}
-use Rattle.relay_link.specs.declared.entrance.Entrance.TheVariants as entry
+use Rattle.relay_link.specs.EntryRules.{none_denied}
 use Rattle.relay_event_loop.proofs.Advancing.{advances_then}
 use Rattle.relay_event_loop.proofs.Held.{turned, unmoved, no_more, no_more_then}
 use Rattle.relay_event_loop.proofs.server.Server.write_link.Goals as goal
@@ -11,7 +11,7 @@ returns g c = (
   (
     c.finish_turn.ensures.0.0,
     advances_then (turned c.args.self.now.connections c.args.key c.in-Some.connection.now _
-        (sym c.in-Some.ensures.value) _ _ _ entry.Open c.in-Ok.ensures.turns.follows
+        (sym c.in-Some.ensures.value) _ _ _ none_denied c.in-Ok.ensures.turns.follows
         c.in-Ok.ensures.turns.received
         (passes_wider _ c.args.self.now.hub _ _ _ _ c.in-Ok.ensures.turns.passes)
         (inl c.in-Ok.ensures.frames) c.in-Ok.ensures.replies)

@@ -3,6 +3,7 @@ use Rattle.std.proofs.Common.{◌≡◌, ◌∙◌, min, Some, ap, rules, subst,
 use Rattle.relay_link.specs.Asks.{Receives}
 use Rattle.relay_link.specs.Adds.{texts_of}
 use Rattle.relay_link.specs.BinaryAnswered.{BinaryAnsweredIfOpen}
+use Rattle.relay_link.specs.EntryRules.{denial}
 use Rattle.relay_link.specs.Hears.{PassesTexts}
 use Rattle.relay_link.specs.Replies.{Replies}
 use Rattle.relay_link.specs.Stage.{session_of, IsSound}
@@ -52,7 +53,7 @@ returns-clause-turns g c = record {
 pub returns-clause-replies : goal.returns-clause-replies
 returns-clause-replies g c =
     subst (λ state.
-    Replies g.S.Read.remaining g.S.Write.contents c.args.entrance.now state
+    Replies g.S.Read.remaining g.S.Write.contents (denial c.args.rules.now c.args.hub.now) state
     c.advance-next.result.state)
     (c.replace-state.ensures.value ∙ c.self.view_is) c.advance-next.ensures.replies
 
