@@ -59,7 +59,8 @@ async def the_tutorials_page_is_a_shared_list(place):
         await Room(place.relay, "list").set(5, "/items")
         await windows[0].until(ITEMS, [])
         await windows[0].submit("")
-        await windows[0].until(text_of("p"), "Not added: no-container at 0.")
+        why = "what is around it is no list and no object: write that first"
+        await windows[0].until(text_of("p"), f"Not added: no-container at 0: {why}.")
         for window in windows:
             await window.leave()
 
