@@ -23,7 +23,8 @@ type Options struct {
 	Begin any
 	// ReadOnly enters the room only to watch it, by its WatchAddress. Each edit fails at once with
 	// *Refused, as read-only, and nothing is sent: so do Change, End, Will, Undo and Redo. Begin is
-	// not added. A relay that does not know the address refuses it with 404.
+	// not added. If there is no room of the name yet, the relay answers 404, and the board is Waiting
+	// until there is one.
 	ReadOnly bool
 	// OnChange is told of each change of what is shown.
 	OnChange func(Change)

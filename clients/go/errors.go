@@ -61,7 +61,8 @@ func (r *Refused) Error() string {
 }
 
 // HandshakeFailed is why there is no connection, as Options.OnState is told of it. The board goes
-// on trying, but for a first answer that is a 404: then the address is none of a room.
+// on trying, but for a first answer that is a 404: then the address is none of a room. A board that
+// is ReadOnly goes on also then: the room may begin later.
 type HandshakeFailed struct {
 	URL    string
 	Status int   // of the answer, as 404; 0 if nothing answered
@@ -74,7 +75,7 @@ func (h *HandshakeFailed) Error() string {
 	case 0:
 		return "relay: nothing answers at " + h.URL + ": " + h.Err.Error()
 	case http.StatusNotFound:
-		return words + "404: " + wrongAddress(h.URL)
+		return words + "404: " + notFound(h.URL)
 	case http.StatusServiceUnavailable:
 		return words + "503: it is full (--sessions, --rooms), --closed, or stopping"
 	default:
@@ -84,24 +85,34 @@ func (h *HandshakeFailed) Error() string {
 
 func (h *HandshakeFailed) Unwrap() error { return h.Err }
 
-var ofRoom = regexp.MustCompile(`^/rooms/[\w-]+(/watch)?$`)
+var (
+	ofRoom = regexp.MustCompile(`^/rooms/[\w-]+(/watch)?$`)
+	// watched is an address as WatchAddress makes it. What stands before /rooms/ is a proxy's concern.
+	watched = regexp.MustCompile(`^wss?://[^?#]+/rooms/[\w-]{1,64}/watch$`)
+)
 
-// wrongAddress says what is wrong with an address, as far as it shows.
-func wrongAddress(address string) string {
+// notFound says what is wrong with an address, as far as it shows.
+func notFound(address string) string {
 	parts, err := url.Parse(address)
 	switch {
+	case watched.MatchString(address):
+		return "there is no room of this name yet, or what answers there has no rooms to watch"
 	case err == nil && !ofRoom.MatchString(parts.Path):
 		return "a room is at /rooms/NAME, and this path is " + parts.Path
 	case err == nil && parts.RawQuery != "":
 		return "leave out the `?` and what follows"
 	default:
-		return "what answers there has no rooms, or none to watch only"
+		return "what answers there has no rooms"
 	}
 }
 
-func isNoRoom(err error) bool {
+// isNoRoom says whether the address is none of a room. One that is only watched may begin later.
+func isNoRoom(err error, readOnly bool) bool {
 	var failed *HandshakeFailed
-	return errors.As(err, &failed) && failed.Status == http.StatusNotFound
+	if !errors.As(err, &failed) || failed.Status != http.StatusNotFound {
+		return false
+	}
+	return !readOnly || !watched.MatchString(failed.URL)
 }
 
 func isStale(err error) bool {

@@ -21,7 +21,8 @@ type Socket interface {
 	Close()
 }
 
-// Dial makes a connection to a room.
+// Dial makes a connection to a room. If the handshake is answered, it fails with a *HandshakeFailed
+// that has the address and the status: by these a board knows a 404 that is final.
 type Dial func(ctx context.Context) (Socket, error)
 
 // State is how a board is connected.
@@ -142,7 +143,7 @@ func (s *session) run(ctx context.Context) {
 		if err == nil {
 			s.serve(socket)
 		}
-		if isNoRoom(err) && s.neverEntered(err) {
+		if isNoRoom(err, s.options.ReadOnly) && s.neverEntered(err) {
 			return
 		}
 		select {

@@ -27,8 +27,6 @@ var usual = keepalive{
 
 var room = regexp.MustCompile(`^wss?://[^/?#]+/([^?#]*/)?rooms/[A-Za-z0-9_-]{1,64}$`)
 
-var watched = regexp.MustCompile(`^wss?://[^?#]+/rooms/[\w-]+/watch$`)
-
 // Connect enters a room, as ws://127.0.0.1:8080/rooms/board, and comes back to it until the context
 // is done or the board is closed. It fails if the address is none of a room, and as ConnectBy does.
 func Connect(ctx context.Context, url string, view []Shown, options Options) (*Board, error) {

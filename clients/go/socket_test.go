@@ -2,11 +2,13 @@ package relay
 
 import (
 	"context"
+	"encoding/json"
 	"errors"
 	"net"
 	"net/http"
 	"net/http/httptest"
 	"strings"
+	"sync/atomic"
 	"testing"
 	"time"
 
@@ -157,6 +159,96 @@ func TestAnAddressToWatchByIsRefusedWithAdvice(t *testing.T) {
 	asked := HandshakeFailed{URL: "ws://h/rooms/demo?a=b", Status: 404}
 	if !strings.HasSuffix(asked.Error(), "with 404: leave out the `?` and what follows") {
 		t.Error(asked.Error())
+	}
+}
+
+// refusing is the address of a relay that answers so many handshakes with 404, and then shows 5.
+func refusing(t *testing.T, count int32) string {
+	upgrader, asked := websocket.Upgrader{}, int32(0)
+	server := httptest.NewServer(http.HandlerFunc(func(to http.ResponseWriter, from *http.Request) {
+		if atomic.AddInt32(&asked, 1) <= count {
+			http.NotFound(to, from)
+			return
+		}
+		conn, err := upgrader.Upgrade(to, from, nil)
+		if err != nil {
+			return
+		}
+		defer conn.Close()
+		say := func(text string) { conn.WriteMessage(websocket.TextMessage, []byte(text)) }
+		say(`{"kind":"welcome","epoch":7,"rev":1}`)
+		conn.ReadMessage() // what watches
+		say(`{"kind":"watching","id":1}`)
+		say(`{"kind":"snapshot","rev":1,"view":[[5]]}`)
+		conn.ReadMessage()
+	}))
+	t.Cleanup(server.Close)
+	return "ws" + strings.TrimPrefix(server.URL, "http")
+}
+
+// watching is a board that only watches, and what it is told of states.
+func watching(t *testing.T, dial Dial, wait time.Duration) (*Board, chan State, chan error) {
+	states, causes := make(chan State, 99), make(chan error, 99)
+	options := Options{ReadOnly: true, FirstWait: wait, LongestWait: 2 * wait}
+	options.OnState = func(state State, cause error) {
+		states <- state
+		if cause != nil {
+			causes <- cause
+		}
+	}
+	board, err := ConnectBy(context.Background(), dial, View("/n"), options)
+	if err != nil {
+		t.Fatal(err)
+	}
+	t.Cleanup(board.Close)
+	return board, states, causes
+}
+
+func TestWhoOnlyWatchesWaitsUntilTheRoomIsThere(t *testing.T) {
+	advice := "there is no room of this name yet, or what answers there has no rooms to watch"
+	for _, path := range []string{"/rooms/a/watch", "/b/rooms/a/watch"} {
+		address := refusing(t, 3) + path
+		board, states, causes := watching(t, WebSocket(address), time.Millisecond)
+		seen, err := board.Ready(soon(t))
+		if err != nil || string(seen.Slots[0][0].(json.Number)) != "5" {
+			t.Fatal(seen, err)
+		}
+		for _, wanted := range []State{
+			Connecting, Waiting, Connecting, Waiting, Connecting, Waiting, Connecting, Open,
+		} {
+			if state := <-states; state != wanted {
+				t.Errorf("%s, and not %s", state, wanted)
+			}
+		}
+		wanted := "relay: " + address + " refuses the connection, with 404: " + advice
+		if cause := <-causes; cause.Error() != wanted {
+			t.Errorf("%v, and not %s", cause, wanted)
+		}
+	}
+}
+
+func TestItsPausesAreThoseOfALostConnection(t *testing.T) {
+	address, begun := refusing(t, 8), time.Now()
+	board, _, _ := watching(t, WebSocket(address+"/rooms/a/watch"), 20*time.Millisecond)
+	if _, err := board.Ready(soon(t)); err != nil {
+		t.Fatal(err)
+	}
+	// Of 20 and 7 of 40 ms each is half at least.
+	if took := time.Since(begun); took < 150*time.Millisecond {
+		t.Errorf("it took %v", took)
+	}
+}
+
+func TestAnAddressThatOnlyWatchesMayBeWrongAsWell(t *testing.T) {
+	address := refusing(t, 1)
+	for _, target := range []string{"/rooms/a", "/rooms/a/watch?b=c", "/rooms/a/watch/", "/watch"} {
+		board, _, _ := watching(t, WebSocket(address+target), time.Millisecond)
+		_, err := board.Ready(soon(t))
+		var failed *HandshakeFailed
+		if !errors.As(err, &failed) || failed.Status != 404 || board.State() != Closed {
+			t.Errorf("%s: %v", target, err)
+		}
+		address = refusing(t, 1)
 	}
 }
 

@@ -164,7 +164,8 @@ export interface Options<
   /**
    * Enters the room only to watch it, by its address with `/watch` behind the name. Each edit fails
    * at once, as `read-only`, and nothing is sent: so do `change`, `end`, `will`, `undo` and `redo`.
-   * `begin` is not written. A relay that does not know the address refuses it with 404.
+   * `begin` is not written. If there is no room of the name yet, the relay answers 404, and the
+   * board is `waiting` until there is one.
    */
   readOnly?: boolean;
   /** Told after each change of the slots, and of how many edits wait. */
@@ -614,14 +615,16 @@ export class Closed extends Error {}
 
 /**
  * No connection could be had; the client goes on trying. A status of 404 ends the board, if no
- * connection was had before: the address is none of a room.
+ * connection was had before: the address is none of a room. But a board that is `readOnly` waits:
+ * the room may begin later.
  */
 export class HandshakeFailed extends Error {
   /** `refused` where something answers at the address, `unreachable` where nothing does. */
   readonly reason: "refused" | "unreachable";
   /**
    * The status of the answer, as 404 or 503, where the platform tells it: Node does, and a browser
-   * for a page of the same origin.
+   * for a page of the same origin. They do not tell these two apart for a board that is `readOnly`,
+   * of which it is null then; the message says both.
    */
   readonly status: number | null;
 }

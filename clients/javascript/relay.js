@@ -104,7 +104,7 @@ const FULL = "it is full (--sessions, --rooms), --closed, or stopping";
 
 /**
  * No connection could be made. The client goes on trying, unless the first answer is a 404: then
- * the address is none of a room.
+ * the address is none of a room. But a room that is only watched may begin later.
  */
 class HandshakeFailed extends Failure {
   name = "HandshakeFailed";
@@ -128,25 +128,34 @@ class HandshakeFailed extends Failure {
 /** @param {string} url @param {number | null} status */
 function refusal(url, status) {
   const refuses = `${url} refuses the connection`;
-  if (status === 404) return `${refuses}, with 404: ${wrongAddress(url) ?? NO_ROOMS}`;
+  const none = `what answers there has no rooms${isWatching(url) ? " to watch" : ""}`;
+  if (status === 404) return `${refuses}, with 404: ${why(url, none)}`;
   if (status === 503) return `${refuses}, with 503: ${FULL}`;
   if (status !== null) return `${refuses}, with ${status}`;
   // A page of another origin is not told the status.
-  return `${refuses}: ${wrongAddress(url) ?? `${FULL}, or what answers is no relay`}`;
+  return `${refuses}: ${why(url, `${FULL}, or what answers is no relay`)}`;
 }
 
-const NO_ROOMS = "what answers there has no rooms, or none to watch only";
-
 /**
- * Tells what is wrong with an address, as far as it shows; null where nothing is.
- * @param {string} url
+ * Tells why an address is refused, as far as it shows.
+ * @param {string} url @param {string} otherwise where nothing is wrong with it
  */
-function wrongAddress(url) {
+function why(url, otherwise) {
+  if (isWatching(url)) return `there is no room of this name yet, or ${otherwise}`;
   const { pathname, search } = new URL(url, globalThis.location?.href);
   if (!/^\/rooms\/[\w-]+(\/watch)?$/.test(pathname)) {
     return `a room is at /rooms/NAME, and this path is ${pathname}`;
   }
-  return search === "" ? null : "leave out the `?` and what follows";
+  return search ? "leave out the `?` and what follows" : otherwise;
+}
+
+/**
+ * True for an address by which a room is only watched, as a board makes it. What stands before
+ * /rooms/ is a proxy's concern.
+ * @param {string} url
+ */
+function isWatching(url) {
+  return /^[^?#]*\/rooms\/[\w-]+\/watch$/.test(url);
 }
 
 /** @param {string} url */
@@ -154,7 +163,7 @@ function silence(url) {
   return `nothing answers at ${url}: start the relay there, or check the address and the port`;
 }
 
-return { Closed, HandshakeFailed, Refused, Unknown };
+return { Closed, HandshakeFailed, Refused, Unknown, isWatching };
 })();
 
 const editModule = (() => {
@@ -1535,10 +1544,11 @@ const handshakeModule = (() => {
 //
 // For each question that fails Chromium writes a line to the console, beside the one that it writes
 // for the socket. So in a browser an answer holds for a while, and most tries write one line.
-const { HandshakeFailed } = errorsModule;
+const { HandshakeFailed, isWatching } = errorsModule;
 
 // The status by which the relay answers a request that is no handshake, where the room's name is
-// good.
+// good. A handshake was refused there for its place, or since the room that it only watches is not
+// there: that does not show.
 const NO_HANDSHAKE = 400;
 const NO_PLACE = 503;
 const LONGEST = 2000;
@@ -1597,7 +1607,8 @@ async function failure(url, event) {
       cache: "no-store",
       signal: ending.signal,
     });
-    return new HandshakeFailed("refused", url, status === NO_HANDSHAKE ? NO_PLACE : status || null);
+    const meant = isWatching(url) ? null : NO_PLACE;
+    return new HandshakeFailed("refused", url, status === NO_HANDSHAKE ? meant : status || null);
   } catch {
     return new HandshakeFailed("unreachable", url);
   } finally {
@@ -1614,8 +1625,7 @@ function checkRoom(url) {
   const { pathname } = parsed(url);
   const [rooms, name = ""] = pathname.split("/").slice(-2);
   if (rooms !== "rooms") {
-    const isWatch = /\/rooms\/[\w-]+\/watch$/.test(pathname);
-    if (isWatch) throw new RangeError("leave out `/watch`, and use the option `readOnly`");
+    if (isWatching(url)) throw new RangeError("leave out `/watch`, and use the option `readOnly`");
     throw new RangeError(`an address ends with /rooms/NAME, and this path is ${pathname}`);
   }
   if (!/^[\w-]{1,64}$/.test(name)) {
@@ -1751,7 +1761,7 @@ return { Counter, WAITS };
 const linkModule = (() => {
 // A connection to a room that comes back when it is lost, and the requests that go over it, in
 // order.
-const { HandshakeFailed } = errorsModule;
+const { HandshakeFailed, isWatching } = errorsModule;
 const { endsConnection } = lengthModule;
 const { Failures } = handshakeModule;
 const { parsed } = jsonModule;
@@ -1810,6 +1820,7 @@ const REPLIES = ["done", "refused", "watching", "resumed", "willing"];
  *   longestWait: number,
  *   quiet: number,
  *   patience: number,
+ *   readOnly?: boolean,
  * }} Options
  */
 
@@ -1836,7 +1847,7 @@ class Link {
   #patience;
   #closed = false;
   #failed;
-  #wasEntered = false; // by any connection
+  #mayBeThere; // the room, also where the answer is 404
   /** @type {Asked | undefined} */
   will; // that the relay took last: it goes with its connection, so the next one leaves it again
 
@@ -1846,6 +1857,8 @@ class Link {
     this.#options = options;
     this.#on = on;
     this.#failed = new Failures(url);
+    // One that is only watched may begin later.
+    this.#mayBeThere = options.readOnly && isWatching(url);
   }
 
   /** Of this connection; null while there is none. */
@@ -1954,8 +1967,7 @@ class Link {
   /** @param {HandshakeFailed | null} cause */
   #wait(cause) {
     if (this.#closed) return;
-    // Once a room was entered there, the answer may be that of a proxy that is being set up anew.
-    if (cause?.status === NO_ROOM && !this.#wasEntered) return this.#on.refused(cause);
+    if (cause?.status === NO_ROOM && !this.#mayBeThere) return this.#on.refused(cause);
     const { firstWait, longestWait } = this.#options;
     const wait = Math.min(firstWait * 2 ** this.#failures, longestWait) * (0.5 + Math.random() / 2);
     this.#failures += 1;
@@ -2064,7 +2076,8 @@ class Link {
   /** @param {Welcome} welcome */
   #enter(welcome) {
     this.#welcome = welcome;
-    this.#wasEntered = true;
+    // From now on a 404 may be that of a proxy that is being set up anew.
+    this.#mayBeThere = true;
     this.#failures = 0;
     this.#failed.end();
     clearTimeout(this.#patience);

@@ -60,6 +60,7 @@ public final class Player {
 
     private final String url;
     private final List<Shown> view;
+    private final boolean isReadOnly;
     private final Board board;
     private final Board counter;
     private final Board changer;
@@ -70,20 +71,22 @@ public final class Player {
     /** The run of the relay to which the newest connection leads. */
     private long run;
 
-    private Player(String url, List<Shown> view) {
+    private Player(String url, List<Shown> view, boolean isReadOnly) {
         this.url = url;
         this.view = view;
+        this.isReadOnly = isReadOnly;
         board = Board.connect(url, options().onChange(this::keep), view);
         counter = Board.connect(url, options(), "/count");
         changer = Board.connect(url, options(), "/changed");
     }
 
-    private static Options options() {
-        return new Options().executor(Runnable::run).waits(SOON, LATER);
+    private Options options() {
+        return new Options().executor(Runnable::run).waits(SOON, LATER).readOnly(isReadOnly);
     }
 
     public static void main(String[] words) throws IOException {
-        Player player = new Player(words[0], view(MAPPER.readTree(words[1])));
+        boolean watches = words.length > 2 && words[2].equals("watch");
+        Player player = new Player(words[0], view(MAPPER.readTree(words[1])), watches);
         InputStreamReader input = new InputStreamReader(System.in, StandardCharsets.UTF_8);
         BufferedReader lines = new BufferedReader(input);
         for (String text = lines.readLine(); text != null; text = lines.readLine()) {

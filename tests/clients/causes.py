@@ -28,9 +28,10 @@ from firefox import Firefox, FirefoxPage
 
 PAGE = """<!doctype html><script src="relay.js"></script><script>
   // Whether a board is told `tries` times that it waits, or that it is closed.
-  globalThis.tried = (url, tries) => new Promise((done) => {
+  globalThis.tried = (url, tries, readOnly) => new Promise((done) => {
     const told = [];
-    const board = relay.connect(url, { view: [""], firstWait: 20, longestWait: 20, onState });
+    const times = { firstWait: 20, longestWait: 20 };
+    const board = relay.connect(url, { view: [""], readOnly, onState, ...times });
     function onState(state, cause) {
       if (cause !== null) told.push([state, cause.reason, cause.status, cause.message]);
       if (told.length < tries && state !== "closed") return;
@@ -88,12 +89,14 @@ def served():
 
 
 def rows(port):
-    """An address, how it fails, and what is said of it."""
+    """An address, how it fails, what is said of it, and whether the room is only watched."""
+    own = f"ws://127.0.0.1:{port}"
     return [
-        (f"ws://127.0.0.1:{free_port()}/rooms/a", "unreachable", "nothing answers at"),
-        (f"ws://127.0.0.1:{port}/rooms/a", "refused", "it is full (--sessions, --rooms)"),
-        (f"ws://127.0.0.1:{port}/rooms/a?token=b", "refused", "leave out the `?` and what follows"),
-        (f"ws://127.0.0.1:{port}/b/rooms/a", "refused", "and this path is /b/rooms/a"),
+        (f"ws://127.0.0.1:{free_port()}/rooms/a", "unreachable", "nothing answers at", False),
+        (f"{own}/rooms/a", "refused", "it is full (--sessions, --rooms)", False),
+        (f"{own}/rooms/a?token=b", "refused", "leave out the `?` and what follows", False),
+        (f"{own}/b/rooms/a", "refused", "and this path is /b/rooms/a", False),
+        (f"{own}/rooms/b", "refused", "there is no room of this name yet, or it is full", True),
     ]
 
 
@@ -104,9 +107,10 @@ async def tells(open_page, errors, questions):
         async with Room(relay, "a").enter():
             for address in pages:
                 page = await open_page(address)
-                for url, reason, words in rows(relay.port):
+                for url, reason, words, watches in rows(relay.port):
                     before = len(errors(page))
-                    told = await page.evaluate(f"tried({json.dumps(url)}, {TRIES})")
+                    asked = f"{json.dumps(url)}, {TRIES}, {json.dumps(watches)}"
+                    told = await page.evaluate(f"tried({asked})")
                     assert len(told) == TRIES, told
                     for state, why, status, message in told:
                         assert (state, why, status) == ("waiting", reason, None), (url, told)

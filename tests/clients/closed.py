@@ -2,15 +2,13 @@
 """A relay that is started closed: the clients are refused with 503, come back by themselves, and
 are let in once an operator opens it.
 
-Usage: tests/clients/closed.py   (GO_PLAYER, JAVA_PLAYER: the programs that clients/go/build and
-clients/java/build make of the players here; without one its client is left out)"""
+Usage: tests/clients/closed.py   (GO_PLAYER, JAVA_PLAYER: as tests/clients/run has them)"""
 
-import os
 import pathlib
 import sys
 
 sys.path.append(str(pathlib.Path(__file__).resolve().parents[1]))
-from players import InGo, InJava, InNode, InPython
+from players import in_each_language
 from support import asking
 from support.patience import becomes
 from support.play import main, shows
@@ -18,32 +16,20 @@ from support.ports import free_port
 from support.relay import Relay
 from support.room import Room
 
-REFUSED = 'relay_handshakes_refused_total{status="503"} '
+REFUSED = 'relay_handshakes_refused_total{status="503"}'
 OPEN = "POST /open HTTP/1.1"
-VIEW = ["/n"]
-
-
-async def players(url):
-    node = os.environ.get("NODE_WORDS", "node").split()
-    found = [InPython(url, VIEW), await InNode.begin(node, url, VIEW)]
-    if go := os.environ.get("GO_PLAYER"):
-        found.append(await InGo.begin(go, url, VIEW))
-    if java := os.environ.get("JAVA_PLAYER"):
-        found.append(await InJava.begin(java, url, VIEW))
-    return found
 
 
 async def refused(admin):
     """The number of handshakes that were answered 503."""
-    text = asking.get(admin, "/metrics").body.decode()
-    return next(int(line[len(REFUSED) :]) for line in text.splitlines() if line.startswith(REFUSED))
+    return asking.metric(admin, REFUSED)
 
 
 @shows
 async def clients_come_back_to_a_relay_that_was_closed():
     admin = free_port()
     with Relay("--closed", "--admin", admin) as relay:
-        clients = await players(relay.url("late"))
+        clients = await in_each_language(relay.url("late"), ["/n"])
         # Each has three connections at least, which are tried again and again.
         await becomes(lambda: refused(admin), lambda count: count >= 6 * len(clients))
         assert [(await client.look())["slots"] for client in clients] == [None] * len(clients)

@@ -1,13 +1,13 @@
 // The jobs of a player of the JavaScript client, in Node and in a page: `play(relay, url, view)`
-// makes a function from what is asked to a promise of the answer.
+// makes a function from what is asked to a promise of the answer. It may only watch.
 "use strict";
-globalThis.play = ({ connect }, url, view) => {
+globalThis.play = ({ connect }, url, view, readOnly = false) => {
   const handed = []; // slots that were handed out, and what they were then
   const onChange = ({ slots }) => {
     handed.push([slots, JSON.stringify(slots)]);
     handed.splice(0, handed.length - 20);
   };
-  const waits = { firstWait: 10, longestWait: 100, onState: () => {} };
+  const waits = { firstWait: 10, longestWait: 100, readOnly, onState: () => {} };
   const board = connect(url, { view, once: "/once", onChange, ...waits });
   const counter = connect(url, { view: ["/count"], ...waits });
   const changer = connect(url, { view: ["/changed", "/log"], ...waits });

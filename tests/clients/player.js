@@ -4,8 +4,8 @@ const { createInterface } = require("node:readline");
 const relay = require("../../clients/javascript/relay.js");
 require("./jobs.js");
 
-const [url, view] = process.argv.slice(2);
-const player = play(relay, url, JSON.parse(view));
+const [url, view, ...more] = process.argv.slice(2);
+const player = play(relay, url, JSON.parse(view), more.includes("watch"));
 
 createInterface({ input: process.stdin })
   .on("line", async (line) => {

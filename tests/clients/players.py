@@ -8,10 +8,15 @@ sys.path.insert(0, f"{ROOT}/clients/python")
 import relay_client
 
 
+WATCHES = "watch"
+"""Behind its words: a player that only watches."""
+
+
 class InPython:
-    def __init__(self, url, view):
+    def __init__(self, url, view, *more):
         self.handed = []  # slots that were handed out, and what they were then
         waits = {"first_wait": 0.01, "longest_wait": 0.1, "on_state": lambda state, cause: None}
+        waits["read_only"] = WATCHES in more
         self.board = relay_client.connect(
             url, view=view, on_change=self.keep, once="/once", **waits
         )
@@ -101,9 +106,9 @@ class InProcess(InJavaScript):
     """A program that is asked by lines, as tests/clients/player.js is."""
 
     @classmethod
-    async def begin(cls, program, url, view):
+    async def begin(cls, program, url, view, *more):
         player = cls()
-        words, pipe = [*program, url, json.dumps(view)], asyncio.subprocess.PIPE
+        words, pipe = [*program, url, json.dumps(view), *more], asyncio.subprocess.PIPE
         player.process = await asyncio.create_subprocess_exec(
             *words, stdin=pipe, stdout=pipe, limit=2**24
         )
@@ -132,24 +137,36 @@ class InNode(InProcess):
     """tests/clients/player.js."""
 
     @classmethod
-    async def begin(cls, node, url, view):
-        return await super().begin([*node, f"{ROOT}/tests/clients/player.js"], url, view)
+    async def begin(cls, node, url, view, *more):
+        return await super().begin([*node, f"{ROOT}/tests/clients/player.js"], url, view, *more)
 
 
 class InGo(InProcess):
     """tests/clients/go, as clients/go/build makes it."""
 
     @classmethod
-    async def begin(cls, program, url, view):
-        return await super().begin([program], url, view)
+    async def begin(cls, program, url, view, *more):
+        return await super().begin([program], url, view, *more)
 
 
 class InJava(InProcess):
     """tests/clients/Player.java, by the program that clients/java/build makes."""
 
     @classmethod
-    async def begin(cls, program, url, view):
-        return await super().begin([program, "Player"], url, view)
+    async def begin(cls, program, url, view, *more):
+        return await super().begin([program, "Player"], url, view, *more)
+
+
+async def in_each_language(url, view, *more):
+    """A player for each client. Go's and Java's are the programs that GO_PLAYER and JAVA_PLAYER
+    name; without one its client is left out."""
+    node = os.environ.get("NODE_WORDS", "node").split()
+    found = [InPython(url, view, *more), await InNode.begin(node, url, view, *more)]
+    if go := os.environ.get("GO_PLAYER"):
+        found.append(await InGo.begin(go, url, view, *more))
+    if java := os.environ.get("JAVA_PLAYER"):
+        found.append(await InJava.begin(java, url, view, *more))
+    return found
 
 
 class InBrowser(InJavaScript):

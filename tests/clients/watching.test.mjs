@@ -12,6 +12,8 @@ import { begunRoom, boardsOf, cuttable, newRoom, scripted, until } from "./rooms
 
 const VIEW = ["/cards", "/title", "/count"];
 const PUSH = [{ op: "add", path: "/cards/-", value: "eggs" }];
+// A platform may tell the status.
+const NO_ROOM_YET = /\/watch refuses the connection(, with 404)?: there is no room of this name/;
 const isReadOnly = (error) => error instanceof Refused && error.fault === "read-only";
 
 test("who only watches sees what others do, also over a lost connection", async (t) => {
@@ -114,15 +116,41 @@ test("who only watches sees who is here, and is not here", async (t) => {
   await until(() => Object.values(mine.people).map(({ name }) => name).join() === "Bob");
 });
 
-test("an older relay does not know the address", async () => {
-  const cause = await new Promise((resolve) => {
-    const onState = (state, cause) => state === "closed" && resolve(cause);
-    const url = newRoom().replace("/rooms/", "/old/rooms/");
-    connect(url, { view: [], readOnly: true, onState });
-  });
+/** The causes that a board that only watches is told, each time that it has no connection. */
+function refusedOf(t, url) {
+  const told = [];
+  const onState = (state, cause) => cause !== null && told.push([state, cause]);
+  const times = { firstWait: 10, longestWait: 10 };
+  const board = connect(url, { view: ["/n"], readOnly: true, onState, ...times });
+  t.after(() => board.close());
+  return [board, told];
+}
+
+test("who only watches waits for a room that is not there, and begins none", async (t) => {
+  const url = newRoom();
+  const [board, told] = refusedOf(t, url);
+  await until(() => told.length > 2);
+  assert.equal(board.slots, null);
+  for (const [state, cause] of told) {
+    assert.deepEqual([state, cause.reason], ["waiting", "refused"]);
+    assert.match(cause.message, NO_ROOM_YET);
+  }
+  const [other] = await boardsOf(t, url, { view: [], begin: { n: 5 } });
+  await until(() => board.slots?.[0][0] === 5);
+  assert.equal(other.rev, 1);
+});
+
+test("what does not know the address is tried again, if its path can be right", async (t) => {
+  const [, told] = refusedOf(t, newRoom().replace("/rooms/", "/old/rooms/"));
+  await until(() => told.length > 2);
+  const [state, cause] = told[0];
   assert.ok(cause instanceof HandshakeFailed);
-  assert.equal(cause.status, 404);
-  assert.match(cause.message, /\/watch refuses the connection, with 404: a room is at \/rooms\//);
+  assert.deepEqual([state, cause.status], ["waiting", 404]);
+  const yet = "there is no room of this name yet, or what answers there has no rooms to watch";
+  assert.ok(cause.message.endsWith(`with 404: ${yet}`), cause.message);
+  const [asked, refused] = refusedOf(t, `${newRoom()}?token=a`);
+  await until(() => asked.state === "closed");
+  assert.match(refused[0][1].message, /\/watch\?token=a .* with 404: leave out the `\?` and/);
 });
 
 test("a room is ended if nobody edited since", async (t) => {

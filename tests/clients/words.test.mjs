@@ -145,5 +145,5 @@ test("without a WebSocket, and without a relay, an error says what to do", async
   );
   assert.equal(new Refused({ fault: "unheard-of" }).message, "unheard-of");
   const { message } = new HandshakeFailed("refused", "ws://h/rooms/a", 404);
-  assert.match(message, /with 404: what answers there has no rooms, or none to watch only/);
+  assert.match(message, /with 404: what answers there has no rooms$/);
 });

@@ -22,10 +22,10 @@ class Play:
         self.driver.tell(do="accept")
         self.draw(1)
 
-    def fail(self):
-        """There is no connection to be had."""
+    def fail(self, **answer):
+        """There is no connection to be had; `status` if the handshake is answered."""
         self.driver.until_opening()
-        self.driver.tell(do="fail")
+        self.driver.tell(do="fail", **answer)
 
     def cut(self):
         self.resumes_of = self.held()

@@ -23,6 +23,7 @@ type line struct {
 	Base          *int64
 	Optimistic    bool
 	ReadOnly      bool
+	Status        int
 }
 
 type driver struct {
@@ -30,6 +31,7 @@ type driver struct {
 	first   []relay.Shown // the first view
 	link    *link
 	opens   chan *link    // the next handshake; nil if it fails
+	status  int           // with which a handshake that fails is answered; 0 if it is not
 	rests   chan struct{} // the client waits: for a message or for a handshake
 	pending map[int]func() map[string]any
 	lock    sync.Mutex // of what is written
@@ -72,7 +74,7 @@ func (d *driver) dial(url string) (relay.Socket, error) {
 	if next := <-d.opens; next != nil {
 		return next, nil
 	}
-	return nil, errors.New("no connection")
+	return nil, &relay.HandshakeFailed{URL: url, Status: d.status, Err: errors.New("no connection")}
 }
 
 func (d *driver) tell(word string, value any) { d.write(map[string]any{word: value}) }
@@ -92,6 +94,7 @@ func (d *driver) do(words line) error {
 		d.opens <- d.link
 		<-d.rests
 	case "fail":
+		d.status = words.Status
 		d.opens <- nil
 		<-d.rests
 	case "hear":

@@ -86,7 +86,7 @@ public final class Driver implements Connector {
         switch (words.get("do").asText()) {
             case "connect" -> connect(words);
             case "accept" -> line.receiver.opened(line);
-            case "fail" -> line.receiver.lost(new RelayException.HandshakeFailed(null, null));
+            case "fail" -> fail(words);
             case "hear" -> line.receiver.heard(words.get("text").textValue());
             case "late" -> former.receiver.heard(words.get("text").textValue());
             case "cut" -> cut();
@@ -110,6 +110,11 @@ public final class Driver implements Connector {
                 .patience(hour, hour);
         firstView = view(words);
         board = Board.connect(words.get("url").textValue(), options, firstView);
+    }
+
+    private void fail(JsonNode words) {
+        Integer status = words.has("status") ? (Integer) words.get("status").intValue() : null;
+        line.receiver.lost(new RelayException.HandshakeFailed(status, null));
     }
 
     private void cut() {

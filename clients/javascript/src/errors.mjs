@@ -66,7 +66,7 @@ const FULL = "it is full (--sessions, --rooms), --closed, or stopping";
 
 /**
  * No connection could be made. The client goes on trying, unless the first answer is a 404: then
- * the address is none of a room.
+ * the address is none of a room. But a room that is only watched may begin later.
  */
 export class HandshakeFailed extends Failure {
   name = "HandshakeFailed";
@@ -90,25 +90,34 @@ export class HandshakeFailed extends Failure {
 /** @param {string} url @param {number | null} status */
 function refusal(url, status) {
   const refuses = `${url} refuses the connection`;
-  if (status === 404) return `${refuses}, with 404: ${wrongAddress(url) ?? NO_ROOMS}`;
+  const none = `what answers there has no rooms${isWatching(url) ? " to watch" : ""}`;
+  if (status === 404) return `${refuses}, with 404: ${why(url, none)}`;
   if (status === 503) return `${refuses}, with 503: ${FULL}`;
   if (status !== null) return `${refuses}, with ${status}`;
   // A page of another origin is not told the status.
-  return `${refuses}: ${wrongAddress(url) ?? `${FULL}, or what answers is no relay`}`;
+  return `${refuses}: ${why(url, `${FULL}, or what answers is no relay`)}`;
 }
 
-const NO_ROOMS = "what answers there has no rooms, or none to watch only";
-
 /**
- * Tells what is wrong with an address, as far as it shows; null where nothing is.
- * @param {string} url
+ * Tells why an address is refused, as far as it shows.
+ * @param {string} url @param {string} otherwise where nothing is wrong with it
  */
-function wrongAddress(url) {
+function why(url, otherwise) {
+  if (isWatching(url)) return `there is no room of this name yet, or ${otherwise}`;
   const { pathname, search } = new URL(url, globalThis.location?.href);
   if (!/^\/rooms\/[\w-]+(\/watch)?$/.test(pathname)) {
     return `a room is at /rooms/NAME, and this path is ${pathname}`;
   }
-  return search === "" ? null : "leave out the `?` and what follows";
+  return search ? "leave out the `?` and what follows" : otherwise;
+}
+
+/**
+ * True for an address by which a room is only watched, as a board makes it. What stands before
+ * /rooms/ is a proxy's concern.
+ * @param {string} url
+ */
+export function isWatching(url) {
+  return /^[^?#]*\/rooms\/[\w-]+\/watch$/.test(url);
 }
 
 /** @param {string} url */

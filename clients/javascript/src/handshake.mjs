@@ -2,10 +2,11 @@
 //
 // For each question that fails Chromium writes a line to the console, beside the one that it writes
 // for the socket. So in a browser an answer holds for a while, and most tries write one line.
-import { HandshakeFailed } from "./errors.mjs";
+import { HandshakeFailed, isWatching } from "./errors.mjs";
 
 // The status by which the relay answers a request that is no handshake, where the room's name is
-// good.
+// good. A handshake was refused there for its place, or since the room that it only watches is not
+// there: that does not show.
 const NO_HANDSHAKE = 400;
 const NO_PLACE = 503;
 const LONGEST = 2000;
@@ -64,7 +65,8 @@ async function failure(url, event) {
       cache: "no-store",
       signal: ending.signal,
     });
-    return new HandshakeFailed("refused", url, status === NO_HANDSHAKE ? NO_PLACE : status || null);
+    const meant = isWatching(url) ? null : NO_PLACE;
+    return new HandshakeFailed("refused", url, status === NO_HANDSHAKE ? meant : status || null);
   } catch {
     return new HandshakeFailed("unreachable", url);
   } finally {
@@ -81,8 +83,7 @@ export function checkRoom(url) {
   const { pathname } = parsed(url);
   const [rooms, name = ""] = pathname.split("/").slice(-2);
   if (rooms !== "rooms") {
-    const isWatch = /\/rooms\/[\w-]+\/watch$/.test(pathname);
-    if (isWatch) throw new RangeError("leave out `/watch`, and use the option `readOnly`");
+    if (isWatching(url)) throw new RangeError("leave out `/watch`, and use the option `readOnly`");
     throw new RangeError(`an address ends with /rooms/NAME, and this path is ${pathname}`);
   }
   if (!/^[\w-]{1,64}$/.test(name)) {

@@ -1,6 +1,6 @@
 // A connection to a room that comes back when it is lost, and the requests that go over it, in
 // order.
-import { HandshakeFailed } from "./errors.mjs";
+import { HandshakeFailed, isWatching } from "./errors.mjs";
 import { endsConnection } from "./length.mjs";
 import { Failures } from "./handshake.mjs";
 import { parsed } from "./json.mjs";
@@ -59,6 +59,7 @@ const REPLIES = ["done", "refused", "watching", "resumed", "willing"];
  *   longestWait: number,
  *   quiet: number,
  *   patience: number,
+ *   readOnly?: boolean,
  * }} Options
  */
 
@@ -85,7 +86,7 @@ export class Link {
   #patience;
   #closed = false;
   #failed;
-  #wasEntered = false; // by any connection
+  #mayBeThere; // the room, also where the answer is 404
   /** @type {Asked | undefined} */
   will; // that the relay took last: it goes with its connection, so the next one leaves it again
 
@@ -95,6 +96,8 @@ export class Link {
     this.#options = options;
     this.#on = on;
     this.#failed = new Failures(url);
+    // One that is only watched may begin later.
+    this.#mayBeThere = options.readOnly && isWatching(url);
   }
 
   /** Of this connection; null while there is none. */
@@ -203,8 +206,7 @@ export class Link {
   /** @param {HandshakeFailed | null} cause */
   #wait(cause) {
     if (this.#closed) return;
-    // Once a room was entered there, the answer may be that of a proxy that is being set up anew.
-    if (cause?.status === NO_ROOM && !this.#wasEntered) return this.#on.refused(cause);
+    if (cause?.status === NO_ROOM && !this.#mayBeThere) return this.#on.refused(cause);
     const { firstWait, longestWait } = this.#options;
     const wait = Math.min(firstWait * 2 ** this.#failures, longestWait) * (0.5 + Math.random() / 2);
     this.#failures += 1;
@@ -313,7 +315,8 @@ export class Link {
   /** @param {Welcome} welcome */
   #enter(welcome) {
     this.#welcome = welcome;
-    this.#wasEntered = true;
+    // From now on a 404 may be that of a proxy that is being set up anew.
+    this.#mayBeThere = true;
     this.#failures = 0;
     this.#failed.end();
     clearTimeout(this.#patience);

@@ -6,12 +6,12 @@ import asyncio
 import json
 import os
 import sys
-from typing import Any, Coroutine, Optional, Sequence
+from typing import Any, Callable, Coroutine, Optional, Sequence
 
 from . import commands
-from .commands import NoAnswer
+from .commands import NoAnswer, NoRoom
 from .faults import Closed, HandshakeFailed, Refused, Unknown
-from .pointers import check_room, tokens
+from .pointers import check_room, tokens, without_watch
 from .values import Patch, as_json
 
 DONE, REFUSED, WRONG, NO_RELAY = 0, 1, 2, 3
@@ -36,13 +36,16 @@ A relay that listens on port 8080 runs these as they stand, in this order:
     relay-client edit ws://127.0.0.1:8080/rooms/shop - --base 1
 
 It exits with 0 if all was done, 1 if the relay refused it, 2 if the words are wrong or the address
-is none of a room, and 3 if there is no relay, or the connection was lost before the answer.
+is none of a room, and 3 if there is no relay, or no room to watch yet, or the connection was lost
+before the answer.
 """
 GET = """Prints the value at each pointer, by default the whole document. If one of them leads to
-nothing, it prints none and exits with 1."""
+nothing, it prints none and exits with 1. With /watch behind the name it begins no room: if there is
+none, it exits with 3."""
 WATCH = """Prints {"rev":R,"slots":[..]} at first and for each change, until Ctrl-C or until nobody
 reads it any more. A slot is [value], or [] if its pointer leads to nothing. If the connection is
-lost it comes back by itself, and says so on standard error."""
+lost it comes back by itself, and says so on standard error. With /watch behind the name it begins
+no room: if there is none, it says so, and waits for it however long that takes."""
 EDIT = """Applies a JSON Patch, whole or not at all, and prints {"rev":N}, the revision that it
 made."""
 
@@ -61,7 +64,7 @@ def main(words: Optional[Sequence[str]] = None) -> int:
     except Refused as refused:
         print(f"relay-client: refused: {_in_words(refused, asked)}", file=sys.stderr)
         return REFUSED
-    except (Closed, HandshakeFailed, NoAnswer, Unknown) as error:
+    except (Closed, HandshakeFailed, NoAnswer, NoRoom, Unknown) as error:
         is_open = asked.command == "edit" and isinstance(error, (NoAnswer, Unknown))
         also = ": the edit may have been done, or not" if is_open else ""
         print(f"relay-client: {error}{also}", file=sys.stderr)
@@ -88,21 +91,15 @@ def _parser() -> argparse.ArgumentParser:
     parser = argparse.ArgumentParser(
         prog="relay-client", description=ABOUT, epilog=EXAMPLES, formatter_class=shape
     )
-    room = argparse.ArgumentParser(add_help=False)
-    room.add_argument("url", type=_room, metavar="URL", help="as ws://127.0.0.1:8080/rooms/NAME")
-    room.add_argument(
-        "--timeout",
-        type=_seconds,
-        default=10.0,
-        metavar="SECONDS",
-        help="how long to wait for the first answer (10)",
-    )
+    of_room = "as ws://127.0.0.1:8080/rooms/NAME"
+    watched = _room_words(_watched, f"{of_room}; with /watch behind it, to only watch")
+    room = _room_words(_room, of_room)
     jobs = parser.add_subparsers(dest="command", required=True, metavar="get|watch|edit")
     for name, help_line, about in (
         ("get", "print the values at pointers", GET),
         ("watch", "print each change", WATCH),
     ):
-        job = jobs.add_parser(name, parents=[room], help=help_line, description=about)
+        job = jobs.add_parser(name, parents=[watched], help=help_line, description=about)
         about_pointers = "a JSON Pointer, as /cards/0; none is the whole document"
         job.add_argument(
             "pointers", nargs="*", type=_pointer, metavar="POINTER", help=about_pointers
@@ -115,9 +112,30 @@ def _parser() -> argparse.ArgumentParser:
     return parser
 
 
+def _room_words(url: Callable[[str], str], about_url: str) -> argparse.ArgumentParser:
+    """The words that a command for a room begins with."""
+    words = argparse.ArgumentParser(add_help=False)
+    words.add_argument("url", type=url, metavar="URL", help=about_url)
+    words.add_argument(
+        "--timeout",
+        type=_seconds,
+        default=10.0,
+        metavar="SECONDS",
+        help="how long to wait for the first answer (10)",
+    )
+    return words
+
+
 def _room(word: str) -> str:
+    if without_watch(word) != word:
+        advice = "leave out `/watch`: who only watches edits nothing"
+        raise argparse.ArgumentTypeError(f"{word}: {advice}")
+    return _watched(word)
+
+
+def _watched(word: str) -> str:
     try:
-        check_room(word)
+        check_room(without_watch(word))
     except ValueError as error:
         raise argparse.ArgumentTypeError(str(error)) from error
     return word

@@ -64,8 +64,8 @@ class Board:
 
     A board that is `read_only` enters the room only to watch it, by its address with `/watch`
     behind the name. Each edit fails at once with `Refused`, as `read-only`, and nothing is sent: so
-    do `change`, `end`, `will`, `undo` and `redo`. `begin` is not written. A relay that does not
-    know the address refuses it with 404.
+    do `change`, `end`, `will`, `undo` and `redo`. `begin` is not written. If there is no room
+    of the name yet, the relay answers 404, and the board is `waiting` until there is one.
 
     `once` is a pointer to an object of the document, as `begin` makes it, in which this client
     keeps a counter for its edits that are `once`.
@@ -108,7 +108,7 @@ class Board:
         self._waiting: List[Edit] = []  # optimistic edits, as they were laid over last
         self._state: State = "connecting"
         opened = open_link or websocket(link or {}, patience)
-        options = linking.Options(first_wait, longest_wait, quiet, patience, queue)
+        options = linking.Options(first_wait, longest_wait, quiet, patience, queue, read_only)
         address = watching(url) if read_only else url
         self._link = linking.RoomLink(address, opened, options, self._hearer())
         on = following.Hearer(self._took, self._present, self._finish)

@@ -12,7 +12,8 @@ from typing import Any, Callable, List, Optional, TypeVar
 from .board import Board
 from .changes import Change
 from .faults import Closed, HandshakeFailed, Refused
-from .link import settle
+from .link import NO_ROOM, settle
+from .pointers import without_watch
 from .values import Json, Patch, State, View
 from .warning import warning
 
@@ -23,37 +24,69 @@ class NoAnswer(Exception):
     """The relay gave no answer within the timeout."""
 
 
+class NoRoom(Exception):
+    """There is no room yet of the name that is to be watched."""
+
+
 class Room:
     """A board, for whoever waits for one answer. A handshake that fails before the first slots is
-    final; later the client comes back by itself, and warns on standard error. `hears` is told of
-    each change, and of None if there can be no more."""
+    final; later the client comes back by itself, and warns on standard error. One that `waits` does
+    so too once it was told that the room to watch is not there yet. `hears` is told of each change,
+    and of None if there can be no more."""
 
     def __init__(
-        self, url: str, view: View, timeout: float, hears: Callable[[Optional[Change]], None]
+        self,
+        url: str,
+        view: View,
+        timeout: float,
+        hears: Callable[[Optional[Change]], None],
+        waits: bool = False,
     ):
         self._timeout, self._warn, self._hears = timeout, warning(), hears
+        self._waits, self._comes_back = waits, False
         self._failed: "asyncio.Future[None]" = asyncio.get_running_loop().create_future()
         self._failed.add_done_callback(lambda failed: failed.cancelled() or failed.exception())
         # The board's own patience is the longer one, so that `NoAnswer` comes first.
-        patience = timeout + 10
+        patience, room = timeout + 10, without_watch(url)
         self.board = Board(
-            url, view=view, on_change=hears, on_state=self._turned, patience=patience
+            room,
+            view=view,
+            read_only=room != url,
+            on_change=hears,
+            on_state=self._turned,
+            patience=patience,
         )
 
     def _turned(self, state: State, cause: Optional[Exception]) -> None:
         if state == "closed" and cause is not None:
             settle(self._failed, cause)
             self._hears(None)
-        elif self.board.ready.done():
+        elif self._comes_back or self.board.ready.done():
             self._warn(state, cause)
         elif isinstance(cause, HandshakeFailed):
+            self._refused(state, cause)
+
+    def _refused(self, state: State, cause: HandshakeFailed) -> None:
+        if cause.status != NO_ROOM:
             settle(self._failed, cause)
+        elif self._waits:
+            self._comes_back = True
+            self._warn(state, cause)
+        else:
+            settle(self._failed, NoRoom(str(cause)))
+
+    def unread(self) -> None:
+        """Nobody reads any more what is printed."""
+        settle(self._failed, BrokenPipeError())
+        self._hears(None)
 
     async def answer(self, coming: "asyncio.Future[Answer]") -> Answer:
         """Its result. Fails with the cause if there is no connection, and with `NoAnswer`."""
         either: "List[asyncio.Future[Any]]" = [coming, self._failed]
         first = asyncio.FIRST_COMPLETED
         await asyncio.wait(either, timeout=self._timeout, return_when=first)
+        if self._comes_back:
+            await asyncio.wait(either, return_when=first)
         if not coming.done():
             coming.cancel()
             self.check()
@@ -70,7 +103,8 @@ class Room:
 
 async def get(url: str, pointers: List[str], timeout: float) -> None:
     """Prints the value at each pointer. Refused, as `missing`, if one leads to nothing: then none
-    is printed, so that line k is always of pointer k."""
+    is printed, so that line k is always of pointer k. `NoRoom` if a room that is only watched is
+    not there."""
     room = Room(url, [*pointers], timeout, lambda change: None)
     async with room.board:
         slots = await room.answer(room.board.ready)
@@ -82,10 +116,11 @@ async def get(url: str, pointers: List[str], timeout: float) -> None:
 
 
 async def watch(url: str, pointers: List[str], timeout: float) -> None:
-    """Prints what the pointers show, and then each change, until nobody reads it any more."""
+    """Prints what the pointers show, and then each change, until nobody reads it any more. Waits
+    for a room that is only watched."""
     changes: "asyncio.Queue[Optional[Change]]" = asyncio.Queue()
-    room = Room(url, [*pointers], timeout, changes.put_nowait)
-    _when_closed(lambda: changes.put_nowait(None))
+    room = Room(url, [*pointers], timeout, changes.put_nowait, waits=True)
+    _when_closed(room.unread)
     async with room.board:
         await room.answer(room.board.ready)
         while (change := await changes.get()) is not None:

@@ -6,6 +6,8 @@ from typing import Any, Dict, Literal, Optional
 from urllib.parse import urlsplit
 
 from .advice import ADVICE
+from .pointers import is_watching
+
 
 class Refused(Exception):
     """The relay refused a request, and nothing changed by it. Or the board did, before it was sent:
@@ -54,12 +56,14 @@ class Closed(Exception):
 
 
 _FULL = "it is full (--sessions, --rooms), --closed, or stopping"
-_NO_ROOMS = "what answers there has no rooms, or none to watch only"
+_NO_ROOMS = "what answers there has no rooms"
+_NO_ROOM_YET = f"there is no room of this name yet, or {_NO_ROOMS} to watch"
 
 
 class HandshakeFailed(Exception):
     """There is no connection: the cause that `on_state` gets with `waiting`. A status of 404 ends
-    the board, if no connection was had before: the address is none of a room."""
+    the board, if no connection was had before: the address is none of a room. But a board that is
+    `read_only` waits: the room may begin later."""
 
     def __init__(
         self,
@@ -88,12 +92,14 @@ class HandshakeFailed(Exception):
 def _refusal(url: str, status: Optional[int]) -> str:
     if status is None:
         return f"{url} refuses the connection"
-    advice = {404: f": {_wrong_address(url)}", 503: f": {_FULL}"}.get(status, "")
+    advice = {404: f": {_not_found(url)}", 503: f": {_FULL}"}.get(status, "")
     return f"{url} refuses the connection, with {status}{advice}"
 
 
-def _wrong_address(url: str) -> str:
+def _not_found(url: str) -> str:
     """Tells what is wrong with an address, as far as it shows."""
+    if is_watching(url):
+        return _NO_ROOM_YET
     parts = urlsplit(url)
     if not re.fullmatch(r"/rooms/[\w-]+(/watch)?", parts.path, re.ASCII):
         return f"a room is at /rooms/NAME, and this path is {parts.path}"

@@ -12,7 +12,7 @@ from typing import Any, Callable, Deque, Literal, Optional
 from .faults import Closed, HandshakeFailed, Refused
 from .length import ends_connection
 from .patience import Patience
-from .pointers import overlap
+from .pointers import is_watching, overlap
 from .requests import Asked, Edit, Message, Setting
 from .transport import Link, LinkLost, OpenLink
 from .values import Patch, State
@@ -44,6 +44,7 @@ class Options:
     quiet: float
     patience: float
     queue: Literal["all", "guarded"]
+    read_only: bool
 
 
 @dataclass(frozen=True)
@@ -144,7 +145,7 @@ class RoomLink:
         try:
             while not self.is_closed:
                 cause = await self._connect()
-                if cause is not None and cause.status == NO_ROOM and not self._was_entered:
+                if cause is not None and self._is_final(cause):
                     return self._on.ended(cause)
                 if not self.is_closed:
                     await self._wait(cause)
@@ -161,6 +162,12 @@ class RoomLink:
         if self._welcomed:
             return None
         return HandshakeFailed("unreachable", detail="no welcome came").at(self._url)
+
+    def _is_final(self, cause: HandshakeFailed) -> bool:
+        """True if the address is none of a room. A room that is only watched may begin later. And
+        once one was entered there, the answer may be that of a proxy that is being set up anew."""
+        may_begin = self._options.read_only and is_watching(self._url)
+        return cause.status == NO_ROOM and not self._was_entered and not may_begin
 
     async def _serve(self, link: Link) -> None:
         self._link, self._welcomed = link, False

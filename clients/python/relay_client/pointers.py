@@ -12,6 +12,7 @@ Path = Tuple[str, ...]
 _INDEX = re.compile("0|[1-9][0-9]*")
 _ESCAPES = re.compile("(?:[^~]|~[01])*", re.DOTALL)
 _ROOM = re.compile("[A-Za-z0-9_-]{1,64}")
+_WATCHED = re.compile(r"/rooms/[A-Za-z0-9_-]{1,64}/watch\Z")
 
 
 def tokens(pointer: str) -> Path:
@@ -58,7 +59,7 @@ def check_room(url: str) -> None:
     if parts.scheme not in ("ws", "wss") or not parts.hostname:
         raise ValueError(f"{url}: an address begins with ws://HOST or wss://HOST")
     _, rooms, name = parts.path.rpartition("/rooms/")
-    if name != "watch" and re.search(r"/rooms/[\w-]+/watch\Z", parts.path, re.ASCII):
+    if without_watch(url) != url:
         raise ValueError(f"{url}: leave out `/watch`, and connect with `read_only=True`")
     if not rooms or not _ROOM.fullmatch(name):
         raise ValueError(
@@ -71,3 +72,17 @@ def watching(url: str) -> str:
     """The address by which a room is entered only to watch it."""
     parts = urlsplit(url)
     return parts._replace(path=f"{parts.path}/watch").geturl()
+
+
+def without_watch(url: str) -> str:
+    """The address of the room that such an address is of. A room may be named `watch`."""
+    parts = urlsplit(url)
+    if parts.path.endswith("/rooms/watch") or not _WATCHED.search(parts.path):
+        return url
+    return parts._replace(path=parts.path[: -len("/watch")]).geturl()
+
+
+def is_watching(url: str) -> bool:
+    """True if it is such an address, as far as it shows: a path before it is a proxy's concern."""
+    parts = urlsplit(url)
+    return not parts.query and _WATCHED.search(parts.path) is not None

@@ -14,6 +14,7 @@ PATIENCE = 60
 SHOWN = {"": {"n": 1}, "/n": 1, "/name": "Zoë"}
 CHANGE = patch(8, {"op": "replace", "path": "/0", "value": [2]})
 INSERT = '[{"op":"add","path":"/cards/0","value":"tea"}]'
+NO_ROOM_YET = "there is no room of this name yet, or what answers there has no rooms to watch"
 
 
 class Relay:
@@ -21,10 +22,11 @@ class Relay:
     edit by the next of `answers`, and ends the connection if there is none."""
 
     def __init__(self, *answers):
-        self.answers, self.edits, self.sockets = list(answers), [], []
+        self.answers, self.edits, self.sockets, self.targets = list(answers), [], [], []
 
     async def serve(self, socket):
         self.sockets.append(socket)
+        self.targets.append(getattr(socket, "path", None) or socket.request.path)
         await self.say(welcome(7, epoch=len(self.sockets)))
         async for text in socket:
             request = json.loads(text)
@@ -51,9 +53,35 @@ class Relay:
             await self.sockets[-1].send(json.dumps(message))
 
     @asynccontextmanager
+    async def listening(self, port=0):
+        async with websockets.serve(self.serve, "127.0.0.1", port) as server:
+            yield address(server)
+
+
+class NoRooms:
+    """Answers each handshake with 404, and counts them."""
+
+    def __init__(self):
+        self.asked = 0
+
+    async def refuse(self, reader, writer):
+        await reader.readuntil(b"\r\n\r\n")
+        writer.write(b"HTTP/1.1 404 Not Found\r\nContent-Length: 0\r\nConnection: close\r\n\r\n")
+        writer.close()
+        self.asked += 1
+
+    @asynccontextmanager
     async def listening(self):
-        async with websockets.serve(self.serve, "127.0.0.1", 0) as server:
-            yield f"ws://127.0.0.1:{server.sockets[0].getsockname()[1]}/rooms/play"
+        async with await asyncio.start_server(self.refuse, "127.0.0.1", 0) as server:
+            yield address(server)
+
+    async def until_asked(self, count):
+        while self.asked < count:
+            await asyncio.sleep(0.01)
+
+
+def address(server):
+    return f"ws://127.0.0.1:{server.sockets[0].getsockname()[1]}/rooms/play"
 
 
 async def begin(*words, stdout=PIPE):
@@ -103,6 +131,20 @@ class Get(unittest.IsolatedAsyncioTestCase):
         async with Relay().listening() as url:
             outcome = await run("get", url, *["/n"] * 17)
         self.assertEqual(outcome, (1, "", "relay-client: refused: too-many\n"))
+
+    async def test_a_room_is_entered_only_to_watch_it_by_its_address_for_that(self):
+        relay = Relay()
+        async with relay.listening() as url:
+            self.assertEqual(await run("get", f"{url}/watch", "/n"), (0, "1\n", ""))
+            self.assertEqual(await run("get", url, "/n"), (0, "1\n", ""))
+        self.assertEqual(relay.targets, ["/rooms/play/watch", "/rooms/play"])
+
+    async def test_that_there_is_no_room_to_watch_is_said_at_once(self):
+        async with NoRooms().listening() as url:
+            status, printed, said = await run("get", f"{url}/watch", "/n", "--timeout", "50")
+        self.assertEqual((status, printed), (3, ""))
+        words = f"relay-client: {url}/watch refuses the connection, with 404: {NO_ROOM_YET}"
+        self.assertTrue(said.startswith(words), said)
 
 
 class Edit(unittest.IsolatedAsyncioTestCase):
@@ -171,6 +213,32 @@ class Watch(unittest.IsolatedAsyncioTestCase):
             program.send_signal(signal.SIGINT)
             self.assertEqual((await ended(program))[0], 0)
 
+    async def test_it_waits_for_a_room_that_is_only_watched(self):
+        none, relay = NoRooms(), Relay()
+        async with none.listening() as url:
+            program = await begin("watch", f"{url}/watch", "/n", "--timeout", "0.1")
+            await asyncio.wait_for(none.until_asked(3), PATIENCE)
+        port = int(url.rpartition("/rooms/")[0].rpartition(":")[2])
+        async with relay.listening(port):
+            line = await asyncio.wait_for(program.stdout.readline(), PATIENCE)
+            self.assertEqual(line, b'{"rev":7,"slots":[[1]]}\n')
+            program.send_signal(signal.SIGINT)
+            status, printed, said = await ended(program)
+        self.assertEqual((status, printed, relay.targets), (0, "", ["/rooms/play/watch"]))
+        self.assertEqual(said.count(f"with 404: {NO_ROOM_YET}"), 1, said)
+        self.assertIn("; it is tried again\n", said)
+
+    async def test_it_ends_once_nobody_reads_it_also_while_it_waits(self):
+        none = NoRooms()
+        async with none.listening() as url:
+            reading, writing = os.pipe()
+            program = await begin("watch", f"{url}/watch", stdout=writing)
+            os.close(writing)
+            await asyncio.wait_for(none.until_asked(2), PATIENCE)
+            os.close(reading)
+            status, _, said = await ended(program)
+        self.assertEqual((status, said.count("relay-client")), (0, 0), said)
+
 
 class Words(unittest.IsolatedAsyncioTestCase):
     async def test_words_that_are_wrong_are_a_matter_of_usage(self):
@@ -179,7 +247,8 @@ class Words(unittest.IsolatedAsyncioTestCase):
             ([], "required"),
             (["put", url], "invalid choice"),
             (["get", "ws://127.0.0.1:1/room"], "an address ends with /rooms/NAME"),
-            (["get", f"{url}/watch"], "leave out `/watch`, and connect with `read_only=True`"),
+            (["edit", f"{url}/watch", "[]"], "leave out `/watch`: who only watches edits nothing"),
+            (["watch", f"{url}/watch/watch"], "an address ends with /rooms/NAME"),
             (["get", url, "n"], "'n' is no JSON Pointer"),
             (["watch", url, "--timeout", "0"], "0 is no time"),
             (["edit", url, "[{"], "no JSON"),
@@ -197,6 +266,19 @@ class Words(unittest.IsolatedAsyncioTestCase):
             status, printed, told = await run(*words)
             self.assertEqual((status, printed), (2, ""), words)
             self.assertIn(said, told)
+
+    async def test_a_404_is_of_an_address_of_no_room_but_for_one_to_watch(self):
+        async with NoRooms().listening() as url:
+            for words in [
+                ["get", url],
+                ["watch", url],
+                ["edit", url, INSERT],
+                ["get", f"{url}/watch?x=1"],
+                ["watch", f"{url}/watch?x=1"],
+            ]:
+                status, printed, told = await run(*words)
+                self.assertEqual((status, printed), (2, ""), words)
+                self.assertIn("refuses the connection, with 404: ", told)
 
     @unittest.skipUnless(os.environ.get("RELAY"), "RELAY names no program")
     async def test_an_address_of_no_room_is_a_matter_of_usage(self):

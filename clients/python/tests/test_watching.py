@@ -1,6 +1,19 @@
 """Boards that only watch, and rooms that are ended, with a relay that the test plays."""
 import asyncio, unittest
-from fake import FakeRelay, done, patch, refused, relay_client, settle, snapshot, unawaited, welcome
+from fake import (
+    URL,
+    FakeRelay,
+    done,
+    patch,
+    refused,
+    relay_client,
+    settle,
+    snapshot,
+    unawaited,
+    watching,
+    welcome,
+)
+from relay_client import HandshakeFailed
 from relay_client.pointers import watching as address_of
 
 PUSH = [{"op": "add", "path": "/cards/-", "value": "tea"}]
@@ -65,6 +78,63 @@ class ReadOnly(unittest.IsolatedAsyncioTestCase):
             ("wss://example.org/x/rooms/a?token=b", "wss://example.org/x/rooms/a/watch?token=b"),
         ):
             self.assertEqual(address_of(url), address)
+
+
+class NotThereYet(unittest.IsolatedAsyncioTestCase):
+    """The relay answers 404 to who only watches a room that nobody began."""
+
+    def connect(self, relay, url=URL, **options):
+        self.told = []
+        own = {"first_wait": 0, "longest_wait": 0, "open_link": relay.open_link, **options}
+        on_state = lambda state, cause: self.told.append((state, cause))
+        return relay_client.connect(url, view=["/n"], on_state=on_state, **own)
+
+    async def test_who_only_watches_waits_until_the_room_is_there(self):
+        relay = FakeRelay(*(HandshakeFailed("refused", 404) for _ in range(3)))
+        async with self.connect(relay, read_only=True) as board:
+            await relay.until_link(1)
+            await relay.say(welcome(1))
+            await relay.say(watching(relay.last["id"]), snapshot(1, [[5]]))
+            self.assertEqual((board.slots, await board.ready), ([[5]], [[5]]))
+        states = [state for state, _ in self.told]
+        self.assertEqual(states, ["waiting", "connecting"] * 3 + ["open", "closed"])
+        cause = self.told[0][1]
+        self.assertEqual((type(cause), cause.status), (HandshakeFailed, 404))
+        self.assertEqual(
+            str(cause),
+            f"{URL}/watch refuses the connection, with 404: there is no room of this name yet, or "
+            "what answers there has no rooms to watch",
+        )
+
+    async def test_so_it_is_behind_a_path_of_a_proxy(self):
+        relay = FakeRelay(*(HandshakeFailed("refused", 404) for _ in range(3)))
+        async with self.connect(relay, "ws://h/b/rooms/a", read_only=True):
+            await relay.until_link(1)
+        self.assertIn("ws://h/b/rooms/a/watch refuses the connection", str(self.told[0][1]))
+
+    async def test_its_pauses_are_those_of_a_lost_connection(self):
+        relay = FakeRelay(*(HandshakeFailed("refused", 404) for _ in range(8)))
+        begun = asyncio.get_running_loop().time()
+        waits = {"first_wait": 0.02, "longest_wait": 0.04}
+        async with self.connect(relay, read_only=True, **waits):
+            await relay.until_link(1)
+        # Of 0.02 and 7 of 0.04 seconds each is half at least.
+        self.assertGreater(asyncio.get_running_loop().time() - begun, 0.15)
+
+    async def test_any_other_404_is_of_a_wrong_address_and_ends_a_board(self):
+        for url, options, words in [
+            (URL, {}, "what answers there has no rooms"),
+            ("ws://h/b/rooms/a", {}, "a room is at /rooms/NAME, and this path is /b/rooms/a"),
+            ("ws://h/rooms/a?b=c", {"read_only": True}, "leave out the `?` and what follows"),
+            # A room named `watch`, behind a path. Its address tells no more than that.
+            ("ws://h/rooms/rooms/watch", {}, ""),
+        ]:
+            relay = FakeRelay(HandshakeFailed("refused", 404))
+            async with self.connect(relay, url, **options) as board:
+                with self.assertRaises(HandshakeFailed) as caught:
+                    await asyncio.wait_for(board.ready, 5)
+                self.assertEqual(self.told, [("closed", caught.exception)], url)
+                self.assertTrue(str(caught.exception).endswith(words), caught.exception)
 
 
 class End(unittest.IsolatedAsyncioTestCase):

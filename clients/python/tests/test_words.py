@@ -120,7 +120,13 @@ class Words(unittest.IsolatedAsyncioTestCase):
         for url, words in [
             ("ws://h/b/rooms/a", "a room is at /rooms/NAME, and this path is /b/rooms/a"),
             ("ws://h/rooms/a?b=c", "leave out the `?` and what follows"),
-            ("ws://h/rooms/a/watch", "what answers there has no rooms, or none to watch only"),
+            ("ws://h/rooms/a", "what answers there has no rooms"),
+            ("ws://h/rooms/watch", "what answers there has no rooms"),
+            (
+                "ws://h/rooms/a/watch",
+                "there is no room of this name yet, or what answers there has no rooms to watch",
+            ),
+            ("ws://h/rooms/a/watch?b=c", "leave out the `?` and what follows"),
         ]:
             failed = relay_client.HandshakeFailed("refused", 404, url=url)
             self.assertEqual(str(failed), f"{url} {refuses} {words}")

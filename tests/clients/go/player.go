@@ -44,9 +44,10 @@ type player struct {
 
 var background = context.Background()
 
-func begin(url string, view []relay.Shown) (*player, error) {
+func begin(url string, view []relay.Shown, readOnly bool) (*player, error) {
 	p := &player{first: view}
 	soon := relay.Options{FirstWait: 10 * time.Millisecond, LongestWait: 100 * time.Millisecond}
+	soon.ReadOnly = readOnly
 	counter, err := relay.Connect(background, url, relay.View("/count"), soon)
 	if err != nil {
 		return nil, err
@@ -186,7 +187,7 @@ func main() {
 	if err := json.Unmarshal([]byte(os.Args[2]), &view); err != nil {
 		panic(err)
 	}
-	p, err := begin(os.Args[1], view)
+	p, err := begin(os.Args[1], view, len(os.Args) > 3 && os.Args[3] == "watch")
 	if err != nil {
 		panic(err)
 	}

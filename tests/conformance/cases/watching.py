@@ -42,6 +42,25 @@ def who_only_watches_sees_edits(driver):
     play.holds_present(["/n"])
 
 
+@case(
+    "Who only watches a room that is not there waits until it is: a handshake that is answered "
+    "with 404 is tried again.",
+    **WATCHES,
+)
+def who_only_watches_waits_for_a_room(driver):
+    play = Play(driver, Relay(BOARD), CARDS, readOnly=True)
+    play.fail(status=404)
+    key = play.watch(["/n"])
+    play.has_not_ended(key)
+    play.fail(status=404)
+    play.has_not_ended(key)
+    play.holds_nothing()
+    play.accept()
+    play.talk()
+    play.ended(key, shown=[[1]])
+    play.holds_present(["/n"])
+
+
 @case("An edit of who only watches fails as `read-only`, and is not sent.", **WATCHES)
 def an_edit_of_who_only_watches_is_not_sent(driver):
     play = watching(driver)

@@ -48,7 +48,9 @@ const does = {
     board = connect(url, { view, readOnly, WebSocket: FakeSocket, ...times });
   },
   accept: () => socket.onopen?.({}),
-  fail: () => socket.onerror?.({}),
+  // A status is told as the package `ws` does.
+  fail: ({ status }) =>
+    socket.onerror?.(status ? { message: `Unexpected server response: ${status}` } : {}),
   hear: ({ text }) => socket.onmessage({ data: text }),
   late: ({ text }) => former.onmessage({ data: text }),
   cut: () => {

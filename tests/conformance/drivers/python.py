@@ -59,8 +59,9 @@ class Driver:
     async def accept(self):
         self.handshake.set_result(None)
 
-    async def fail(self):
-        self.handshake.set_exception(relay_client.HandshakeFailed("unreachable"))
+    async def fail(self, status=None):
+        reason = "unreachable" if status is None else "refused"
+        self.handshake.set_exception(relay_client.HandshakeFailed(reason, status))
 
     async def hear(self, text):
         self.link.heard.put_nowait(text)

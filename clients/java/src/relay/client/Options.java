@@ -66,7 +66,8 @@ public final class Options {
      * Enters the room only to watch it, by its address with {@code /watch} behind the name. Each
      * edit fails at once with {@code Refused}, as {@code read-only}, and nothing is sent: so do
      * {@code change}, {@code end}, {@code undo} and {@code redo}. The document of {@link #begin} is
-     * not added. A relay that does not know the address refuses it with 404.
+     * not added. If there is no room of the name yet, the relay answers 404, and the board is
+     * {@code WAITING} until there is one.
      */
     public Options readOnly(boolean chosen) {
         isReadOnly = chosen;

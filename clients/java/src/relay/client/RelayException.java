@@ -74,13 +74,15 @@ public abstract class RelayException extends RuntimeException {
 
     /**
      * There is no connection. The board goes on trying, unless the first answer is a 404: then the
-     * address is none of a room.
+     * address is none of a room. One that only watches goes on also then: the room may begin later.
      */
     public static final class HandshakeFailed extends RelayException {
         private static final long serialVersionUID = 1;
         private static final String UNREACHABLE = "the relay cannot be reached";
         private static final String FULL =
                 "it is full (--sessions, --rooms), --closed, or stopping";
+        private static final String NO_ROOM_YET =
+                "there is no room of this name yet, or what answers there has no rooms to watch";
         /** The status of the answer, as 503 of a relay without a place; null if none came. */
         public final Integer status;
 
@@ -102,19 +104,17 @@ public abstract class RelayException extends RuntimeException {
         private String words(URI address) {
             if (status == null) return UNREACHABLE + ", at " + address;
             String words = address + " refuses the connection, with " + status;
-            if (status == 404) return words + ": " + wrongAddress(address);
+            if (status == 404) return words + ": " + notFound(address);
             return status == 503 ? words + ": " + FULL : words;
         }
 
         /** Tells what is wrong with an address, as far as it shows. */
-        private static String wrongAddress(URI address) {
+        private static String notFound(URI address) {
             String path = String.valueOf(address.getPath());
-            if (!path.matches("/rooms/[A-Za-z0-9_-]+(/watch)?")) {
-                return "a room is at /rooms/NAME, and this path is " + path;
-            }
-            return address.getQuery() == null
-                    ? "what answers there has no rooms, or none to watch only"
-                    : "leave out the `?` and what follows";
+            if (path.matches(".*/rooms/[A-Za-z0-9_-]+/watch")) return NO_ROOM_YET;
+            return path.matches("/rooms/[A-Za-z0-9_-]+")
+                    ? "what answers there has no rooms"
+                    : "a room is at /rooms/NAME, and this path is " + path;
         }
     }
 }

@@ -213,7 +213,7 @@ final class Session {
     }
 
     private void lose(RelayException.HandshakeFailed cause) {
-        if (cause != null && Objects.equals(cause.status, NO_ROOM) && !wasEntered) {
+        if (cause != null && isFinal(cause)) {
             close(cause);
             return;
         }
@@ -224,6 +224,14 @@ final class Session {
         long chosen = ThreadLocalRandom.current().nextLong(wait / 2, wait + 1);
         timer = TIMERS.schedule(() -> locked(this::connect), chosen, TimeUnit.MILLISECONDS);
         enter(State.WAITING, cause);
+    }
+
+    /**
+     * The address is none of a room. One that is only watched may begin later, since
+     * {@link Board#connect} takes no address that is wrong by itself.
+     */
+    private boolean isFinal(RelayException.HandshakeFailed cause) {
+        return Objects.equals(cause.status, NO_ROOM) && !wasEntered && !options.isReadOnly;
     }
 
     private void locked(Runnable act) {

@@ -7,6 +7,7 @@ import static relay.client.ValuesTest.json;
 import com.fasterxml.jackson.databind.JsonNode;
 import java.time.Duration;
 import java.util.ArrayList;
+import java.util.Collections;
 import java.util.List;
 import java.util.Map;
 import java.util.Optional;
@@ -54,14 +55,12 @@ final class BoardTest {
     }
 
     static void aMissingRoomEndsABoardThatWasNeverInIt() {
+        String refuses = " refuses the connection, with 404: ";
+        String path = "a room is at /rooms/NAME, and this path is /b/rooms/a";
+        equal("ws://h/b/rooms/a" + refuses + path, whyItEnds("ws://h/b/rooms/a"));
+        String noRooms = "what answers there has no rooms";
+        equal("ws://h/rooms/a" + refuses + noRooms, whyItEnds("ws://h/rooms/a"));
         Played relay = new Played();
-        Board board = Board.connect("ws://h/b/rooms/a", relay.options(), "");
-        relay.refuse(404);
-        equal(State.CLOSED, board.state());
-        fails(RelayException.HandshakeFailed.class, () -> board.ready().join());
-        String advice = "a room is at /rooms/NAME, and this path is /b/rooms/a";
-        String words = board.ready().handle((slots, failure) -> failure.getMessage()).join();
-        equal("ws://h/b/rooms/a refuses the connection, with 404: " + advice, words);
         Runnable toWatch = () -> Board.connect("ws://h/rooms/a/watch", relay.options(), "");
         fails(IllegalArgumentException.class, toWatch);
         // Once it was there, it comes back.
@@ -72,6 +71,56 @@ final class BoardTest {
         relay.reply("'kind':'resumed','how':'nothing'");
         equal(State.OPEN, other.state());
         other.close();
+    }
+
+    private static String whyItEnds(String address) {
+        Played relay = new Played();
+        Board board = Board.connect(address, relay.options(), "");
+        relay.refuse(404);
+        equal(State.CLOSED, board.state());
+        fails(RelayException.HandshakeFailed.class, () -> board.ready().join());
+        return board.ready().handle((slots, failure) -> failure.getMessage()).join();
+    }
+
+    static void whoOnlyWatchesWaitsUntilTheRoomIsThere() {
+        String yet = " refuses the connection, with 404: there is no room of this name yet, "
+                + "or what answers there has no rooms to watch";
+        for (String address : List.of("ws://h/rooms/a", "ws://h/b/rooms/a")) {
+            Played relay = new Played();
+            List<State> states = new ArrayList<>();
+            List<String> causes = new ArrayList<>();
+            Options options = relay.options().readOnly(true).onState((state, cause) -> {
+                states.add(state);
+                if (cause != null) causes.add(cause.getMessage());
+            });
+            Board board = Board.connect(address, options, "/n");
+            for (int tries = 0; tries < 3; tries++) relay.refuse(404);
+            relay.accept(7, 1);
+            relay.reply("'kind':'watching'");
+            relay.hear("{'kind':'snapshot','rev':1,'view':[[5]]}");
+            equal("[5]", shown(board));
+            List<State> wanted = new ArrayList<>();
+            for (int tries = 0; tries < 3; tries++) {
+                wanted.addAll(List.of(State.CONNECTING, State.WAITING));
+            }
+            wanted.addAll(List.of(State.CONNECTING, State.OPEN));
+            equal(wanted, states);
+            equal(Collections.nCopies(3, address + "/watch" + yet), causes);
+            board.close();
+        }
+    }
+
+    static void itsPausesAreThoseOfALostConnection() {
+        Played relay = new Played();
+        Duration first = Duration.ofMillis(20);
+        Options options = relay.options().readOnly(true).waits(first, first.multipliedBy(2));
+        long begun = System.nanoTime();
+        Board board = Board.connect("ws://h/rooms/a", options, "/n");
+        for (int tries = 0; tries < 8; tries++) relay.refuse(404);
+        relay.accept(7, 1);
+        // Of 20 and 7 of 40 ms each is half at least.
+        equal(true, System.nanoTime() - begun > 150_000_000);
+        board.close();
     }
 
     static void whatIsUnguardedIsRefusedWhileAway() {
