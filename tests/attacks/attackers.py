@@ -1,29 +1,50 @@
 """The connections of one attack: they end together, and no call of theirs outlasts its deadline."""
 
+import concurrent.futures
+import contextlib
 import selectors
+import threading
 import time
 
 from support import wire
 
 ATTACKS = {}
-# How many megabytes the relay may hold in an attack, if that is part of what it shows.
+# How many megabytes the relay may hold in an attack, at its peak and after it, if that is part of
+# what it shows.
 BOUNDS = {}
+# The options that the relay of an attack has, if it needs some.
+OPTIONS = {}
+
+
+def name_of(play):
+    return play.__name__.replace("_", "-")
 
 
 def attack(play):
     """Marks a function of `Attackers` as an attack, by its name with dashes."""
-    ATTACKS[play.__name__.replace("_", "-")] = play
+    ATTACKS[name_of(play)] = play
     return play
 
 
-def bounded(megabytes):
-    """Marks an attack: the relay holds no more than that at its peak."""
+def bounded(megabytes, after=None):
+    """Marks an attack: the relay holds no more than that at its peak, and no more than `after` once
+    the attackers have left."""
 
     def bound(play):
-        BOUNDS[play.__name__.replace("_", "-")] = megabytes
+        BOUNDS[name_of(play)] = (megabytes, after or megabytes)
         return play
 
     return bound
+
+
+def served(*options):
+    """Marks an attack: the relay that it is played to has these options."""
+
+    def serve(play):
+        OPTIONS[name_of(play)] = options
+        return play
+
+    return serve
 
 
 class Wrong(Exception):
@@ -31,13 +52,19 @@ class Wrong(Exception):
     it."""
 
 
-class Attackers:
-    def __init__(self, port, deadline):
-        self.port, self.deadline, self.clients = port, deadline, []
+class Harm(Exception):
+    """The attack did to somebody else what it must not."""
 
-    def open(self, room):
+
+class Attackers:
+    """Those of one attack to the relay with these ports for clients and for its operator."""
+
+    def __init__(self, port, admin, deadline):
+        self.port, self.admin, self.deadline, self.clients = port, admin, deadline, []
+
+    def open(self, room, connect=wire.connected):
         """One more connection, in a session of that room."""
-        self.clients.append(wire.Client(self.port, room, self.deadline))
+        self.clients.append(wire.Client(self.port, room, self.deadline, connect))
         return self.clients[-1]
 
     def open_many(self, rooms):
@@ -58,6 +85,24 @@ class Attackers:
     def stay(self, seconds):
         """They do nothing for a while."""
         time.sleep(min(seconds, self.deadline.left()))
+
+    @contextlib.contextmanager
+    def meanwhile(self, act):
+        """Does this again and again in a thread of its own, as long as the block lasts and the
+        deadline allows."""
+        is_over = threading.Event()
+        with concurrent.futures.ThreadPoolExecutor(1) as pool:
+            acting = pool.submit(self._repeat, act, is_over)
+            try:
+                yield
+            finally:
+                is_over.set()
+        acting.result()
+
+    def _repeat(self, act, is_over):
+        while not is_over.is_set():
+            self.deadline.left()
+            act()
 
     def pour(self, clients, part, count=1_000_000, seconds=5):
         """Sends bytes to each client's stream so many times, side by side, as fast as the relay

@@ -2,7 +2,7 @@
 
 import functools
 
-from attackers import ATTACKS, Wrong, attack
+from attackers import ATTACKS, Harm, Wrong, attack
 from support import wire
 
 ROOMS = 64
@@ -20,6 +20,19 @@ def names_left(attackers):
     # The good client's room may take one of the places.
     if opened < ROOMS - 1:
         raise Wrong(f"only {opened} rooms are opened")
+
+
+@attack
+def watched_names(attackers):
+    """63 sessions that only watch ask for rooms that nobody entered, each for one of its own. Then
+    a client comes to write a new room: it has to be let in."""
+    attackers.open_many([f"name{room}/watch" for room in range(ROOMS - 1)])
+    try:
+        reply = attackers.open("written").set("first")
+    except wire.Ended as ended:
+        raise Harm(f"a writer is {ended}") from None
+    if reply["kind"] != "done":
+        raise Harm(f"a writer is answered {reply}")
 
 
 @attack

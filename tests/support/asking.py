@@ -1,6 +1,7 @@
 """Requests to the admin port, byte by byte as they are given, and their replies."""
 
 import dataclasses
+import json
 
 from support.wire import all_of, connected
 
@@ -42,3 +43,25 @@ def delete(port, room):
 
 def get(port, path):
     return ask(port, head(f"GET {path} HTTP/1.1"))
+
+
+def metric(port, name):
+    """The value of a metric; the name has its labels, as `a_total{of="b"}`."""
+    lines = get(port, "/metrics").body.decode().splitlines()
+    return next(int(line[len(name) + 1 :]) for line in lines if line.startswith(f"{name} "))
+
+
+def rooms(port):
+    """The entry that is told of each room, by its name."""
+    return {room.pop("name"): room for room in json.loads(get(port, "/rooms").body)}
+
+
+def wanted(port):
+    """The rooms of a closed relay at which clients were refused."""
+    return json.loads(get(port, "/wanted").body)
+
+
+def door(port, method, room):
+    """Opens a room to clients by PUT, or closes it by DELETE: the status, and what is said."""
+    reply = ask(port, head(f"{method} /open/{room} HTTP/1.1"))
+    return reply.status, reply.body

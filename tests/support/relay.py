@@ -7,6 +7,7 @@ import subprocess
 
 from support import process
 from support.patience import PATIENCE
+from support.ports import free_port
 
 ROOT = pathlib.Path(__file__).resolve().parents[2]
 EPOCH = 7
@@ -67,3 +68,11 @@ class Relay:
         self.process.kill()
         self.process.wait()
         self.process.stdout.close()
+
+
+class Operated(Relay):
+    """One with an operator's port."""
+
+    def __init__(self, *options, **how):
+        self.admin = free_port()
+        super().__init__("--admin", self.admin, *options, **how)

@@ -39,9 +39,9 @@ def request(word, number=1, **members):
     return frame(compact({"do": word, "id": number, **members}).encode())
 
 
-def connected(port, address="127.0.0.1", seconds=60):
-    """A TCP connection that delays nothing."""
-    stream = socket.create_connection((address, port), timeout=seconds)
+def connected(port, address="127.0.0.1", seconds=60, source=None):
+    """A TCP connection that delays nothing, from this address of the machine if one is named."""
+    stream = socket.create_connection((address, port), seconds, source and (source, 0))
     stream.setsockopt(socket.IPPROTO_TCP, socket.TCP_NODELAY, 1)
     return stream
 
@@ -61,12 +61,13 @@ def all_of(stream):
 
 class Client:
     """One session. Every call ends by the deadline, or in PATIENCE if there is none, by OutOfTime;
-    what had come by then is kept for the next call."""
+    what had come by then is kept for the next call. `connect` makes its stream, as `connected`
+    does."""
 
-    def __init__(self, port, room, deadline=None):
+    def __init__(self, port, room, deadline=None, connect=connected):
         self.deadline, self.input = deadline, bytearray()
         try:
-            self.stream = connected(port, seconds=self._left())
+            self.stream = connect(port, seconds=self._left())
         except TimeoutError:
             raise OutOfTime from None
         except OSError as fault:
