@@ -57,7 +57,7 @@ impl<S: Read + Write + OpenStream + Drop, R: Readiness<S>> Server<S, R> {
     /// let hub = Hub::new(alloc, 1, 1, 64, 32).ok()?;
     /// let mut server = Server::new(alloc, hub, ScriptedReadiness::of(&script), 1_000_000);
     /// let mut origins = Vec::new(alloc);
-    /// origins.push(String::from_str(alloc, "https://example.org")?)?;
+    /// origins.push(String::from_str(alloc, "https://example.org").ok()?).ok()?;
     /// server.set_origins(origins);
     /// wire.try_borrow_mut().ok()?.perform(alloc, "asks 13 /rooms/a").ok()?;
     /// listener.add(&wire)?;
@@ -85,12 +85,12 @@ impl<S: Read + Write + OpenStream + Drop, R: Readiness<S>> Server<S, R> {
     /// that are held stay. A new server has no such limit.
     ///
     /// ```
+    /// let (first, second) = (Wire::new(alloc), Wire::new(alloc));
     /// let script = ReadinessScript::new(alloc);
     /// let listener = MemoryListener::new(alloc);
     /// let hub = Hub::new(alloc, 1, 2, 64, 32).ok()?;
     /// let mut server = Server::new(alloc, hub, ScriptedReadiness::of(&script), 1_000_000);
     /// server.set_per_peer(1);
-    /// let (first, second) = (Wire::new(alloc), Wire::new(alloc));
     /// listener.add(&first)?;
     /// listener.add(&second)?;
     /// server.round(alloc, &listener, &mut NoLog);
