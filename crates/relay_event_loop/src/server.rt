@@ -79,8 +79,6 @@ pub struct Server<S: Write + Drop, R> {
     wanted: WantedRooms,
     /// The maximum number of connections.
     max_connections: usize,
-    /// The maximum number of connections of one address.
-    max_per_peer: u64,
     readiness: R,
     events: Vec<ReadyEvent>,
     /// True if a connection may wait to be accepted.
@@ -110,6 +108,8 @@ pub struct Server<S: Write + Drop, R> {
     next_shed_entry: u64,
     /// The `arrival` of the next connection.
     next_arrival: u64,
+    /// The maximum number of connections of one address.
+    max_per_peer: u64,
 }
 
 impl<S: Read + Write + OpenStream + Drop, R: Readiness<S>> Server<S, R> {
@@ -149,7 +149,6 @@ impl<S: Read + Write + OpenStream + Drop, R: Readiness<S>> Server<S, R> {
             },
             wanted: WantedRooms::new(alloc),
             max_connections: connection_limit(config.sessions),
-            max_per_peer: u64::MAX,
             readiness,
             events: Vec::new(alloc),
             accept_ready: true,
@@ -166,6 +165,7 @@ impl<S: Read + Write + OpenStream + Drop, R: Readiness<S>> Server<S, R> {
             seconds: 0,
             next_shed_entry: 0,
             next_arrival: 0,
+            max_per_peer: u64::MAX,
         }
     }
 
