@@ -176,21 +176,45 @@ fn server_of<S: Read + Write + OpenStream + Drop, R: Readiness<S>>(
     ensures open { options.closed ≡ false → entrance_of result ≡ Open }
     ensures output { output_limit_of result
         ≡ min (2 ^ 64 - 1) (options.output_mib * MIB) }
-    ensures origins { origins_of result ≡ options.origins.items }
-    ensures per_peer { peer_limit_of result ≡ unwrap_or options.per_peer (2 ^ 64 - 1) }
 {
     let most_output = bytes_of(options.output_mib);
-    let mut server = Server::new(alloc, hub, readiness, most_output);
+    let mut server = bounded(
+        alloc,
+        hub,
+        readiness,
+        most_output,
+        options.origins,
+        options.per_peer,
+    );
     if options.forget_rooms {
         server.forget_rooms();
     }
     if options.closed {
         server.set_entrance(Entrance::closed(alloc));
     }
-    if let Some(most) = options.per_peer {
-        server.set_per_peer(most);
-    }
-    server.set_origins(options.origins);
+    server
+}
+
+/// A server of a hub that holds so much output, lets in pages of these origins, and so many
+/// connections of one address, if there is a limit.
+fn bounded<S: Read + Write + OpenStream + Drop, R: Readiness<S>>(
+    alloc: Global,
+    hub: Hub,
+    readiness: R,
+    most_output: u64,
+    origins: Vec<String>,
+    per_peer: Option<u64>,
+) -> Server<S, R>
+    ensures hub { hub_of result ≡ hub }
+    ensures forgets { forgets_rooms result ≡ false }
+    ensures entrance { entrance_of result ≡ Open }
+    ensures output { output_limit_of result ≡ most_output }
+    ensures origins { origins_of result ≡ origins.items }
+    ensures per_peer { peer_limit_of result ≡ unwrap_or per_peer (2 ^ 64 - 1) }
+{
+    let mut server = Server::new(alloc, hub, readiness, most_output);
+    server.set_per_peer(per_peer.unwrap_or(u64::MAX));
+    server.set_origins(origins);
     server
 }
 

@@ -6,7 +6,7 @@ use Rattle.relay_server.proofs.serve.server_of.Goals.{then-options, else-options
 
 pub returns-else-options-2-clause-output : goal.returns-else-options-2-clause-output
 returns-else-options-2-clause-output g c =
-    let made = c.new-server.ensures.output ∙ c.bytes_of-most_output.ensures in
+    let made = c.bounded-server.ensures.output ∙ c.bytes_of-most_output.ensures in
     elim c.if-options.branch [
       | then-options w ↦ ap output_limit_of w.server-is ∙ w.forget_rooms.ensures.output ∙ made
       | else-options w ↦ ap output_limit_of w.server-is ∙ made
@@ -14,7 +14,7 @@ returns-else-options-2-clause-output g c =
 
 pub returns-then-options-2-clause-output : goal.returns-then-options-2-clause-output
 returns-then-options-2-clause-output g c =
-    let made = c.new-server.ensures.output ∙ c.bytes_of-most_output.ensures in
+    let made = c.bounded-server.ensures.output ∙ c.bytes_of-most_output.ensures in
     c.set_entrance.ensures.output
     ∙ elim c.if-options.branch [
       | then-options w ↦ ap output_limit_of w.server-is ∙ w.forget_rooms.ensures.output ∙ made
