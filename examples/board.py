@@ -42,8 +42,8 @@ async def main(port, room="board"):
     url = f"ws://127.0.0.1:{port}/rooms/{room}"
     told = {"on_change": show, "on_taken_back": taken_back}
     async with relay_client.connect(url, view=["/todo"], begin=EMPTY, **told) as board:
-        newest = None
-        while line := await asyncio.to_thread(sys.stdin.readline):
+        newest, loop = None, asyncio.get_running_loop()
+        while line := await loop.run_in_executor(None, sys.stdin.readline):
             if line.strip() == "undo":
                 await undo(board)
             else:

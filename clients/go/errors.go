@@ -70,17 +70,25 @@ type HandshakeFailed struct {
 }
 
 func (h *HandshakeFailed) Error() string {
-	words := "relay: " + h.URL + " refuses the connection, with "
-	switch h.Status {
-	case 0:
-		return "relay: nothing answers at " + h.URL + ": " + h.Err.Error()
-	case http.StatusNotFound:
-		return words + "404: " + notFound(h.URL)
-	case http.StatusServiceUnavailable:
-		return words + "503: it is full (--sessions, --rooms), --closed, or stopping"
-	default:
-		return fmt.Sprint(words, h.Status)
+	if h.Status == 0 {
+		advice := "start the relay there, or check the address, the port and --per-peer"
+		return fmt.Sprintf("relay: nothing answers at %s: %s (%v)", h.URL, advice, h.Err)
 	}
+	words := fmt.Sprintf("relay: %s refuses the connection, with %d", h.URL, h.Status)
+	if h.Status == http.StatusNotFound {
+		return words + ": " + notFound(h.URL)
+	}
+	if cause, known := causes[h.Status]; known {
+		words += ": " + cause
+	}
+	return words
+}
+
+// causes are of the statuses that say it by themselves.
+var causes = map[int]string{
+	http.StatusForbidden:          "it lets no page of this origin in (--origin)",
+	http.StatusTooManyRequests:    "too many requests or connections of this address",
+	http.StatusServiceUnavailable: "it is full (--sessions, --rooms), --closed, or stopping",
 }
 
 func (h *HandshakeFailed) Unwrap() error { return h.Err }

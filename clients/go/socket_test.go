@@ -4,6 +4,7 @@ import (
 	"context"
 	"encoding/json"
 	"errors"
+	"fmt"
 	"net"
 	"net/http"
 	"net/http/httptest"
@@ -249,6 +250,27 @@ func TestAnAddressThatOnlyWatchesMayBeWrongAsWell(t *testing.T) {
 			t.Errorf("%s: %v", target, err)
 		}
 		address = refusing(t, 1)
+	}
+}
+
+func TestEachStatusThatIsTriedAgainSaysItsOwnThing(t *testing.T) {
+	for status, words := range map[int]string{
+		403: ": it lets no page of this origin in (--origin)",
+		429: ": too many requests or connections of this address",
+		502: "",
+		503: ": it is full (--sessions, --rooms), --closed, or stopping",
+	} {
+		failed := HandshakeFailed{URL: "ws://h/rooms/a", Status: status}
+		wanted := fmt.Sprintf("relay: ws://h/rooms/a refuses the connection, with %d%s", status, words)
+		if failed.Error() != wanted {
+			t.Errorf("%v, and not %s", failed.Error(), wanted)
+		}
+	}
+	silent := HandshakeFailed{URL: "ws://h/rooms/a", Err: errors.New("refused")}
+	wanted := "relay: nothing answers at ws://h/rooms/a: start the relay there, or check the " +
+		"address, the port and --per-peer (refused)"
+	if silent.Error() != wanted {
+		t.Errorf("%v, and not %s", silent.Error(), wanted)
 	}
 }
 

@@ -622,9 +622,10 @@ export class HandshakeFailed extends Error {
   /** `refused` where something answers at the address, `unreachable` where nothing does. */
   readonly reason: "refused" | "unreachable";
   /**
-   * The status of the answer, as 404 or 503, where the platform tells it: Node does, and a browser
-   * for a page of the same origin. They do not tell these two apart for a board that is `readOnly`,
-   * of which it is null then; the message says both.
+   * The status of the answer, as 404 or 503, where the platform tells it; else null, and the
+   * message names each that it may be. A browser tells no page a 403 (its origin may not enter)
+   * from a 503, and a page of another origin nothing. Neither a browser nor Node tells these from
+   * the 404 of a board that is `readOnly`.
    */
   readonly status: number | null;
 }

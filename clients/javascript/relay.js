@@ -100,7 +100,16 @@ class Closed extends Failure {
   }
 }
 
+const SILENT = "start the relay there, or check the address, the port and --per-peer";
 const FULL = "it is full (--sessions, --rooms), --closed, or stopping";
+const FOREIGN = "it lets no page of this origin in (--origin)";
+
+/** @type {Record<number, string>} */
+const CAUSES = {
+  403: FOREIGN,
+  429: "too many requests or connections of this address",
+  503: FULL,
+};
 
 /**
  * No connection could be made. The client goes on trying, unless the first answer is a 404: then
@@ -119,7 +128,7 @@ class HandshakeFailed extends Failure {
    * @param {number | null} [status]
    */
   constructor(reason, url, status = null) {
-    super(reason === "refused" ? refusal(url, status) : silence(url));
+    super(reason === "refused" ? refusal(url, status) : `nothing answers at ${url}: ${SILENT}`);
     this.reason = reason;
     this.status = status;
   }
@@ -128,12 +137,14 @@ class HandshakeFailed extends Failure {
 /** @param {string} url @param {number | null} status */
 function refusal(url, status) {
   const refuses = `${url} refuses the connection`;
+  // A browser tells no page a 403 from a 503, and a page of another origin no status at all.
+  if (status === null) {
+    const page = globalThis.location ? `${FOREIGN}, or ` : "";
+    return `${refuses}: ${why(url, `${FULL}, or ${page}what answers is no relay`)}`;
+  }
   const none = `what answers there has no rooms${isWatching(url) ? " to watch" : ""}`;
-  if (status === 404) return `${refuses}, with 404: ${why(url, none)}`;
-  if (status === 503) return `${refuses}, with 503: ${FULL}`;
-  if (status !== null) return `${refuses}, with ${status}`;
-  // A page of another origin is not told the status.
-  return `${refuses}: ${why(url, `${FULL}, or what answers is no relay`)}`;
+  const cause = status === 404 ? why(url, none) : CAUSES[status];
+  return `${refuses}, with ${status}${cause ? `: ${cause}` : ""}`;
 }
 
 /**
@@ -156,11 +167,6 @@ function why(url, otherwise) {
  */
 function isWatching(url) {
   return /^[^?#]*\/rooms\/[\w-]+\/watch$/.test(url);
-}
-
-/** @param {string} url */
-function silence(url) {
-  return `nothing answers at ${url}: start the relay there, or check the address and the port`;
 }
 
 return { Closed, HandshakeFailed, Refused, Unknown, isWatching };
@@ -481,7 +487,7 @@ function parsed(text) {
  * @returns {T}
  */
 function frozen(value) {
-  if (typeof value !== "object" || value === null || Object.isFrozen(value)) return value;
+  if (!isContainer(value) || Object.isFrozen(value)) return value;
   Object.freeze(value);
   const isList = Array.isArray(value);
   for (const part of isList ? value : Object.values(value)) {
@@ -496,7 +502,16 @@ function frozen(value) {
  * @returns {value is Record<string, any>}
  */
 function isObject(value) {
-  return typeof value === "object" && value !== null && !Array.isArray(value);
+  return isContainer(value) && !Array.isArray(value);
+}
+
+/**
+ * True if a value is a list, or has members.
+ * @param {unknown} value
+ * @returns {value is object}
+ */
+function isContainer(value) {
+  return typeof value === "object" && value !== null;
 }
 
 /**
@@ -507,9 +522,7 @@ function isObject(value) {
  */
 function same(one, other) {
   if (one === other) return true;
-  if (one === null || other === null || typeof one !== "object" || typeof other !== "object") {
-    return false;
-  }
+  if (!isContainer(one) || !isContainer(other)) return false;
   if (Array.isArray(one) !== Array.isArray(other)) return false;
   const names = Object.keys(one);
   const [parts, others] = /** @type {Record<string, Json>[]} */ ([one, other]);
@@ -519,7 +532,7 @@ function same(one, other) {
   );
 }
 
-return { DEEPEST, checked, frozen, isObject, parsed, same };
+return { DEEPEST, checked, frozen, isContainer, isObject, parsed, same };
 })();
 
 const patchModule = (() => {
@@ -527,6 +540,7 @@ const patchModule = (() => {
 // where it differs, so a value that was handed out stays what it was. A patch copies each container
 // once, however many of its operations change it.
 const { index, startsWith } = pointerModule;
+const { isContainer, isObject } = jsonModule;
 
 /** An operation does not fit the value. */
 class Misfit extends Error {
@@ -546,7 +560,7 @@ class Owned {
    * @param {any} part
    */
   writable(part) {
-    if (typeof part !== "object" || part === null) throw new Misfit();
+    if (!isContainer(part)) throw new Misfit();
     if (this.#made.has(part)) return part;
     const copy = Array.isArray(part) ? [...part] : { ...part }; // of a frozen list `slice` is slow
     this.#made.add(copy);
@@ -580,7 +594,7 @@ function checkMove(from, path) {
 /** @param {any} part @param {string} token */
 function has(part, token) {
   if (Array.isArray(part)) return (index(token) ?? part.length) < part.length;
-  return typeof part === "object" && part !== null && Object.hasOwn(part, token);
+  return isObject(part) && Object.hasOwn(part, token);
 }
 
 /** @param {any} whole @param {readonly string[]} path */
@@ -653,7 +667,7 @@ const knownModule = (() => {
 // What an operation means to a slot (docs/PROTOCOL.md, "What a change means to a slot") follows:
 // the operation is done on what is known, and the slots are read again.
 const { index, tokens } = pointerModule;
-const { frozen, same } = jsonModule;
+const { frozen, isContainer, same } = jsonModule;
 const { Misfit, Owned, added, checkMove, has, removed, replaced } = patchModule;
 
 /**
@@ -1069,7 +1083,7 @@ function slotOf(whole, shown) {
 
 /** @param {any} value @returns {Slot} */
 function sizeOf(value) {
-  if (typeof value !== "object" || value === null) return [];
+  if (!isContainer(value)) return [];
   return [Array.isArray(value) ? value.length : Object.keys(value).length];
 }
 
@@ -1227,13 +1241,10 @@ class Follower {
   /** @param {Wanted} wanted @param {any} reply */
   #refuse({ number }, reply) {
     const refused = new Refused(reply);
-    for (const waiter of this.#waiters.filter((waiter) => waiter.number === number)) {
-      waiter.reject(refused);
-    }
-    this.#waiters = this.#waiters.filter((waiter) => waiter.number !== number);
+    for (const waiter of this.#leaving((asked) => asked === number)) waiter.reject(refused);
     if (this.#wanted.number !== number) return;
     if (this.#held.slots === null) return this.#on.refused(refused);
-    this.#wanted = this.#taken ?? { number: this.#held.number, view: this.#held.view };
+    this.#wanted = this.#taken ?? this.#held;
     if (this.#taken === null) this.#link.ask(this.#watching());
   }
 
@@ -1251,15 +1262,23 @@ class Follower {
     else this.astray();
   }
 
+  /**
+   * The waiters of some numbers, which wait no more.
+   * @param {(number: number) => boolean} isOf
+   */
+  #leaving(isOf) {
+    const leaving = this.#waiters.filter(({ number }) => isOf(number));
+    this.#waiters = this.#waiters.filter(({ number }) => !isOf(number));
+    return leaving;
+  }
+
   /** @param {number} rev @param {readonly Slot[]} slots @param {Operation[] | null} patch */
   #take(rev, slots, patch) {
     const before = this.#held;
     const epoch = this.#link.welcome?.epoch ?? null;
     const seen = patch === null ? { .../** @type {Wanted} */ (this.#taken), epoch } : before;
     this.#held = { ...seen, slots, rev };
-    const { number } = this.#held;
-    const told = this.#waiters.filter((waiter) => waiter.number <= number);
-    this.#waiters = this.#waiters.filter((waiter) => waiter.number > number);
+    const told = this.#leaving((asked) => asked <= this.#held.number);
     try {
       this.#on.took(before, patch);
     } finally {
@@ -1547,8 +1566,8 @@ const handshakeModule = (() => {
 const { HandshakeFailed, isWatching } = errorsModule;
 
 // The status by which the relay answers a request that is no handshake, where the room's name is
-// good. A handshake was refused there for its place, or since the room that it only watches is not
-// there: that does not show.
+// good. So a handshake was refused there for its place, for the origin of a page, or since the room
+// that it only watches is not there: which of these does not show.
 const NO_HANDSHAKE = 400;
 const NO_PLACE = 503;
 const LONGEST = 2000;
@@ -1560,7 +1579,7 @@ class Failures {
   #url;
   /** @type {HandshakeFailed | null} */
   #last = null;
-  #asked = 0; // when
+  #asked = 0; // when that was; 0 if it holds no more
 
   /** @param {string} url of the room, as `ws://HOST/rooms/NAME` */
   constructor(url) {
@@ -1572,8 +1591,7 @@ class Failures {
    * @param {{ message?: string } | null} event of the socket
    */
   async newest(event) {
-    const isKept = globalThis.location !== undefined && Date.now() - this.#asked < HOLDS;
-    if (this.#last === null || !isKept) {
+    if (!globalThis.location || Date.now() - this.#asked > HOLDS) {
       this.#asked = Date.now();
       this.#last = await failure(this.#url, event);
     }
@@ -1582,7 +1600,7 @@ class Failures {
 
   /** A handshake succeeded. */
   end() {
-    this.#last = null;
+    this.#asked = 0;
   }
 }
 
@@ -1600,14 +1618,14 @@ async function failure(url, event) {
   try {
     const { location } = globalThis;
     const address = new URL(url.replace(/^ws/, "http"), location?.href);
-    const isForeign = location !== undefined && location.origin !== address.origin;
+    const isForeign = location && location.origin !== address.origin;
     const { status } = await fetch(address, {
-      // Chromium asks nothing of another origin by `no-cors` unless it may follow.
-      ...(isForeign ? { mode: "no-cors", redirect: "follow" } : { redirect: "manual" }),
+      // By `no-cors` Chromium asks nothing of another origin unless it may follow redirections.
+      ...(isForeign ? { mode: "no-cors" } : { redirect: "manual" }),
       cache: "no-store",
       signal: ending.signal,
     });
-    const meant = isWatching(url) ? null : NO_PLACE;
+    const meant = location || isWatching(url) ? null : NO_PLACE;
     return new HandshakeFailed("refused", url, status === NO_HANDSHAKE ? meant : status || null);
   } catch {
     return new HandshakeFailed("unreachable", url);
@@ -2544,6 +2562,7 @@ return { Keyed, followed, shown };
 const optionsModule = (() => {
 // The options that an application gives a call, checked before anything is done with it: a name
 // that nobody reads would change nothing, and nobody would hear of it.
+const { isObject } = jsonModule;
 
 /**
  * Fails with a `TypeError` where the call has no such option, and names the nearest one.
@@ -2553,7 +2572,7 @@ const optionsModule = (() => {
  * @param {readonly string[]} [own] what the client itself gives as well
  */
 function checkOptions(call, options, names, own = []) {
-  if (typeof options !== "object" || options === null || Array.isArray(options)) {
+  if (!isObject(options)) {
     throw new TypeError(`the options of \`${call}\` are an object, not ${shown(options)}`);
   }
   const unknown = Object.keys(options).find((name) => ![...names, ...own].includes(name));
@@ -2591,8 +2610,8 @@ function checkFunction(call, make) {
 
 /** @param {unknown} value */
 function shown(value) {
-  if (typeof value !== "object" || value === null) return String(value);
-  return Array.isArray(value) ? "a list" : "an object";
+  if (Array.isArray(value)) return "a list";
+  return isObject(value) ? "an object" : String(value);
 }
 
 /**
@@ -2820,7 +2839,8 @@ class Place {
   #cover() {
     const { view } = this.#source;
     const at = view.findIndex((shown) => same(shown, this.#shown));
-    if (at >= 0 || typeof this.#shown !== "string") return { at, rest: [] };
+    if (at >= 0) return { at, rest: [] };
+    if (typeof this.#shown !== "string") return null;
     const outer = view.findIndex(
       (shown) => typeof shown === "string" && startsWith(this.#path, tokens(shown)),
     );
@@ -3075,7 +3095,7 @@ const nodeModule = (() => {
 // The parts of a draft: what was seen, each part by where it stood, and what is made of it. A part
 // keeps what it is when it is moved, so that the patch can be a move. Containers are opened when
 // they are looked into.
-const { DEEPEST, checked, isObject } = jsonModule;
+const { DEEPEST, checked, isContainer, isObject } = jsonModule;
 const { child } = knownModule;
 const { index, spelled } = pointerModule;
 
@@ -3114,8 +3134,7 @@ class Node {
   }
 
   get isContainer() {
-    const isObject = typeof this.#value === "object" && this.#value !== null;
-    return this.#kids !== null || this.isPartial || isObject;
+    return this.#kids !== null || this.isPartial || isContainer(this.#value);
   }
 
   /** True if it was looked into, so that something in it may be another one. */
@@ -3397,6 +3416,7 @@ const draftModule = (() => {
 // A draft of what a board shows, which an application changes as any value. What it reads and what
 // it addresses is noted, so that the patch can be guarded by tests of that.
 const { Node, put, takeUp } = nodeModule;
+const { isContainer } = jsonModule;
 const { index, spelled } = pointerModule;
 const { methods } = listModule;
 
@@ -3433,7 +3453,7 @@ class Draft {
    */
   at(path) {
     const value = path.reduce((part, token) => part?.[token], this.of(this.root));
-    if (typeof value === "object" && value !== null) return value;
+    if (isContainer(value)) return value;
     throw new TypeError(`${spelled(path)} is no container`);
   }
 
@@ -3463,9 +3483,7 @@ class Draft {
   }
 
   /** @param {any} value @returns {Node | undefined} */
-  #nodeOf = (value) => {
-    return typeof value === "object" && value !== null ? this.#nodes.get(value) : undefined;
-  };
+  #nodeOf = (value) => this.#nodes.get(value);
 
   /**
    * The value of a part is read.
@@ -4443,7 +4461,7 @@ class Board {
     });
     /** The first slots. */
     this.ready = this.#follower.shown().then(() => this.slots);
-    this.ready.catch(() => {});
+    this.ready.catch(NOTHING);
     this.subscribe = this.subscribe.bind(this);
     for (const { patch, ...seen } of this.#queue.left()) this.#editLeft(patch, seen);
     this.#link.connect();
@@ -4692,7 +4710,7 @@ class Board {
       // The slots that come now are of its revision, or of a later one, and what takes it back is
       // not known.
       doneBefore: (edit, epoch) => {
-        unconfirmed.left = () => {};
+        unconfirmed.left = NOTHING;
         this.watchAgain().then(() => done(Number(this.rev), epoch), () => edit.dropped());
       },
       failed: (cause) => {
@@ -4743,7 +4761,7 @@ class Board {
         const inverse = this.#history.take(role);
         return inverse === null ? null : this.#takeBack(inverse, role);
       });
-      this.#stepping = step.catch(() => {});
+      this.#stepping = step.catch(NOTHING);
       return step;
     });
   }
@@ -4784,8 +4802,10 @@ class Board {
    * @returns {Promise<void>}
    */
   quiet() {
-    if (this.#overlay.isEmpty) return Promise.resolve();
-    return new Promise((resolve) => this.#quietWaiters.push(resolve));
+    return new Promise((resolve) => {
+      this.#quietWaiters.push(resolve);
+      this.#becomeQuiet();
+    });
   }
 
   #becomeQuiet() {

@@ -71,6 +71,16 @@ class ChromiumPage(Page):
 
 
 class Quiet(http.server.SimpleHTTPRequestHandler):
+    """Hands out the page. Of a room it refuses each handshake with 403, and any other request with
+    400, as a relay behind the same origin whose `--origin` is another one."""
+
+    def do_GET(self):
+        if not self.path.startswith("/rooms/"):
+            return super().do_GET()
+        self.send_response(403 if "Upgrade" in self.headers else 400)
+        self.send_header("Content-Length", "0")
+        self.end_headers()
+
     def log_message(self, *_):
         pass
 
@@ -88,36 +98,56 @@ def served():
             server.shutdown()
 
 
-def rows(port):
+@contextlib.asynccontextmanager
+async def relays():
+    """Relays that refuse a page: one that is full, one that lets no page of its origin in, and one
+    that has as many connections of its address as it may."""
+    with contextlib.ExitStack() as ends:
+        full = ends.enter_context(Relay("--sessions", 1, "--rooms", 4))
+        foreign = ends.enter_context(Relay("--origin", "https://relay.example.org"))
+        crowded = ends.enter_context(Relay("--per-peer", 1))
+        async with Room(full, "a").enter(), Room(crowded, "a").enter():
+            yield [f"ws://127.0.0.1:{relay.port}" for relay in (full, foreign, crowded)]
+
+
+def rows(page, full, foreign, crowded):
     """An address, how it fails, what is said of it, and whether the room is only watched."""
-    own = f"ws://127.0.0.1:{port}"
+    nobody = f"ws://127.0.0.1:{free_port()}"
+    same_origin = page.replace("http", "ws", 1).replace("/page.html", "")
+    here = [(f"{same_origin}/rooms/a", "refused", "(--origin)", False)]
     return [
-        (f"ws://127.0.0.1:{free_port()}/rooms/a", "unreachable", "nothing answers at", False),
-        (f"{own}/rooms/a", "refused", "it is full (--sessions, --rooms)", False),
-        (f"{own}/rooms/a?token=b", "refused", "leave out the `?` and what follows", False),
-        (f"{own}/b/rooms/a", "refused", "and this path is /b/rooms/a", False),
-        (f"{own}/rooms/b", "refused", "there is no room of this name yet, or it is full", True),
+        (f"{nobody}/rooms/a", "unreachable", "nothing answers at", False),
+        (f"{crowded}/rooms/a", "unreachable", "the port and --per-peer", False),
+        (f"{full}/rooms/a", "refused", "it is full (--sessions, --rooms)", False),
+        (f"{foreign}/rooms/a", "refused", "it lets no page of this origin in (--origin)", False),
+        (f"{full}/rooms/a?token=b", "refused", "leave out the `?` and what follows", False),
+        (f"{full}/b/rooms/a", "refused", "and this path is /b/rooms/a", False),
+        (f"{full}/rooms/b", "refused", "there is no room of this name yet, or it is full", True),
+        *(here if page.startswith("http") else []),
     ]
 
 
 async def tells(open_page, errors, questions):
     """Each page is told why. Each try writes a line, and so does each question that fails, in a
     browser that writes one for that."""
-    with served() as pages, Relay("--sessions", 1, "--rooms", 4) as relay:
-        async with Room(relay, "a").enter():
+    with served() as pages:
+        async with relays() as addresses:
             for address in pages:
                 page = await open_page(address)
-                for url, reason, words, watches in rows(relay.port):
+                for row in rows(address, *addresses):
                     before = len(errors(page))
-                    asked = f"{json.dumps(url)}, {TRIES}, {json.dumps(watches)}"
-                    told = await page.evaluate(f"tried({asked})")
-                    assert len(told) == TRIES, told
-                    for state, why, status, message in told:
-                        assert (state, why, status) == ("waiting", reason, None), (url, told)
-                        assert words in message, (address, message)
+                    await tells_of(page, *row)
                     lines = errors(page)[before:]
-                    assert len(lines) == TRIES + questions, lines
+                    assert len(lines) == TRIES + questions, (row, lines)
                 await page.leave()
+
+
+async def tells_of(page, url, reason, words, watches):
+    told = await page.evaluate(f"tried({json.dumps(url)}, {TRIES}, {json.dumps(watches)})")
+    assert len(told) == TRIES, told
+    for state, why, status, message in told:
+        assert (state, why, status) == ("waiting", reason, None), (url, told)
+        assert words in message, (url, message)
 
 
 @shows

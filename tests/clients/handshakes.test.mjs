@@ -134,3 +134,18 @@ test("a platform that does not tell a 404 from a 503 has both said of who watche
   const { cause: refused } = await board(t, own, {});
   assert.equal(refused.message, `${own} refuses the connection, with 503: ${full}`);
 });
+
+test("each status that is tried again says its own thing", async (t) => {
+  const rows = [
+    [403, ": it lets no page of this origin in (--origin)"],
+    [429, ": too many requests or connections of this address"],
+    [502, ""],
+    [503, ": it is full (--sessions, --rooms), --closed, or stopping"],
+  ];
+  for (const [status, words] of rows) {
+    const { cause, ready } = await board(t, ROOM, { WebSocket: refusing(status) });
+    assert.deepEqual(ready, [[5]]);
+    assert.deepEqual([cause.reason, cause.status], ["refused", status]);
+    assert.equal(cause.message, `${ROOM} refuses the connection, with ${status}${words}`);
+  }
+});

@@ -60,10 +60,11 @@ test("a pointer that no slot shows is neither read nor written", async (t) => {
   await assert.rejects(board.at("/cards").update(() => []), apart);
   assert.throws(() => board.at("/people").value, RangeError);
   assert.throws(() => board.at("cards"), RangeError);
-  assert.deepEqual(
-    [board.at({ size: "/people" }).value, board.at({ size: "/cards" }).value],
-    [1, undefined],
-  );
+  assert.equal(board.at({ size: "/people" }).value, 1);
+  assert.throws(() => board.at({ size: "/cards" }).value, {
+    message: '{"size":"/cards"} is not in the view ["/cards/0",{"size":"/people"},"/none"]',
+    name: "RangeError",
+  });
   // Nothing stands in what is no container.
   assert.deepEqual(
     [board.at("/none").value, board.at("/none/a").value, board.at("/cards/0/length").value],

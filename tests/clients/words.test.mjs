@@ -136,7 +136,8 @@ test("without a WebSocket, and without a relay, an error says what to do", async
   board.states((state) => (tries += Number(state === "waiting")));
   await until(() => tries > 2);
   board.close();
-  const advice = "start the relay there, or check the address and the port; it is tried again";
+  const check = "start the relay there, or check the address, the port and --per-peer";
+  const advice = `${check}; it is tried again`;
   assert.deepEqual(warned, [`relay: nothing answers at ws://127.0.0.1:1/rooms/a: ${advice}`]);
   const refused = new Refused({ fault: "no-container", at: 0 });
   assert.equal(

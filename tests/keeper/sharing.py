@@ -55,11 +55,18 @@ class Member:
     async def refuses(self, room):
         """True if no session is opened."""
         try:
+            return await self.status(room) != 101
+        except OSError:
+            return True
+
+    async def status(self, room):
+        """That of a handshake."""
+        try:
             async with websockets.connect(self.relay.url(room)) as link:
                 await link.recv()
-                return False
-        except (OSError, websockets.exceptions.InvalidStatusCode):
-            return True
+                return 101
+        except websockets.exceptions.InvalidStatusCode as refused:
+            return refused.status_code
 
     @contextlib.asynccontextmanager
     async def entered(self, room):
@@ -170,6 +177,33 @@ async def a_room_that_no_client_wants_is_not_taken(database):
         assert await two.refuses("other")
         await becomes(lambda: two.refuses("other"), lambda refused: not refused)
         assert "other" not in one.listed() and "board" not in two.listed()
+
+
+@shows
+async def a_room_that_is_only_watched_is_not_begun(database):
+    with group(database) as here:
+        one = here.member()
+        watched = "board/watch"
+        await becomes(lambda: one.status(watched), lambda status: status == 404)
+        until = time.monotonic() + 8  # it is given up meanwhile, and taken again
+        while time.monotonic() < until:
+            assert await one.status(watched) in (404, 503)
+            assert "board" not in one.listed(), "who only watches begins none"
+            await asyncio.sleep(0.2)
+        await set_first(one, "board", FIRST)
+        await here.keeps("board", FIRST)
+        assert await one.first_shown(watched) == FIRST
+
+
+@shows
+async def a_kept_document_comes_back_for_one_who_only_watches(database):
+    with group(database) as here:
+        one = here.member()
+        await set_first(one, "board", FIRST)
+        await here.keeps("board", FIRST)
+        one.end()
+        two = here.member()
+        assert await two.first_shown("board/watch") == FIRST
 
 
 @shows

@@ -188,6 +188,8 @@ def each_word_has_help_with_an_example(_):
         flat = " ".join(told.split())
         assert status == 0 and f"Example: relay-keeper {word} " in flat, told
         assert "Exit status: 0" in flat, told
+        if word == "keep":
+            assert "else of the store and of --list; may be given again" in flat, told
 
 
 if __name__ == "__main__":

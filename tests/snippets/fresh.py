@@ -173,7 +173,7 @@ def readmes_clients():
     (FRESH / HOME[1:] / "demo.mjs").write_text(snippet("README.md", "js"))
     (FRESH / HOME[1:] / "demo.py").write_text(snippet("README.md", "python"))
     run(inline("README.md", "python3 -m venv .venv && .venv/bin/pip install ./clients/python"))
-    node = inline("README.md", "node demo.mjs").replace("node", "node --experimental-websocket")
+    node = inline("README.md", "node --experimental-websocket demo.mjs")
     with Running("relay serve --port 8080", "listening 8080"):
         with Running(f"{node} 2>/dev/null", r"2 \[ \[ 'milk' \] \]"):
             with Running(".venv/bin/python -u demo.py", r"\d \[\[\['milk', 'bread'\]\]\]"):

@@ -58,10 +58,14 @@ async def run(snippet, relay, room):
 async def run_part(snippet, url, board):
     lines = []
     show = lambda *things: lines.append(" ".join(map(str, things)) + "\n")
-    code = compile(snippet.body, snippet.place, "exec", ast.PyCF_ALLOW_TOP_LEVEL_AWAIT)
-    awaits = eval(code, {"url": url, "board": board, "show": show, "print": show})
+    body = snippet.body.replace("ws://127.0.0.1:8080/", url[: url.index("rooms/")])
+    code = compile(body, snippet.place, "exec", ast.PyCF_ALLOW_TOP_LEVEL_AWAIT)
+    names = {"url": url, "board": board, "show": show, "print": show}
+    awaits = eval(code, names)
     if awaits is not None:
         await asyncio.wait_for(awaits, PATIENCE)
+    if names["board"] is not board:
+        await names["board"].close()
     if snippet.prints is not None and "".join(lines) != snippet.prints:
         raise Wrong(f"it prints\n{''.join(lines)}and not\n{snippet.prints}")
 

@@ -104,7 +104,7 @@ export class Board {
     });
     /** The first slots. */
     this.ready = this.#follower.shown().then(() => this.slots);
-    this.ready.catch(() => {});
+    this.ready.catch(NOTHING);
     this.subscribe = this.subscribe.bind(this);
     for (const { patch, ...seen } of this.#queue.left()) this.#editLeft(patch, seen);
     this.#link.connect();
@@ -353,7 +353,7 @@ export class Board {
       // The slots that come now are of its revision, or of a later one, and what takes it back is
       // not known.
       doneBefore: (edit, epoch) => {
-        unconfirmed.left = () => {};
+        unconfirmed.left = NOTHING;
         this.watchAgain().then(() => done(Number(this.rev), epoch), () => edit.dropped());
       },
       failed: (cause) => {
@@ -404,7 +404,7 @@ export class Board {
         const inverse = this.#history.take(role);
         return inverse === null ? null : this.#takeBack(inverse, role);
       });
-      this.#stepping = step.catch(() => {});
+      this.#stepping = step.catch(NOTHING);
       return step;
     });
   }
@@ -445,8 +445,10 @@ export class Board {
    * @returns {Promise<void>}
    */
   quiet() {
-    if (this.#overlay.isEmpty) return Promise.resolve();
-    return new Promise((resolve) => this.#quietWaiters.push(resolve));
+    return new Promise((resolve) => {
+      this.#quietWaiters.push(resolve);
+      this.#becomeQuiet();
+    });
   }
 
   #becomeQuiet() {

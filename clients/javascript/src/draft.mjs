@@ -1,6 +1,7 @@
 // A draft of what a board shows, which an application changes as any value. What it reads and what
 // it addresses is noted, so that the patch can be guarded by tests of that.
 import { Node, put, takeUp } from "./node.mjs";
+import { isContainer } from "./json.mjs";
 import { index, spelled } from "./pointer.mjs";
 import { methods } from "./list.mjs";
 
@@ -37,7 +38,7 @@ export class Draft {
    */
   at(path) {
     const value = path.reduce((part, token) => part?.[token], this.of(this.root));
-    if (typeof value === "object" && value !== null) return value;
+    if (isContainer(value)) return value;
     throw new TypeError(`${spelled(path)} is no container`);
   }
 
@@ -67,9 +68,7 @@ export class Draft {
   }
 
   /** @param {any} value @returns {Node | undefined} */
-  #nodeOf = (value) => {
-    return typeof value === "object" && value !== null ? this.#nodes.get(value) : undefined;
-  };
+  #nodeOf = (value) => this.#nodes.get(value);
 
   /**
    * The value of a part is read.

@@ -62,7 +62,16 @@ export class Closed extends Failure {
   }
 }
 
+const SILENT = "start the relay there, or check the address, the port and --per-peer";
 const FULL = "it is full (--sessions, --rooms), --closed, or stopping";
+const FOREIGN = "it lets no page of this origin in (--origin)";
+
+/** @type {Record<number, string>} */
+const CAUSES = {
+  403: FOREIGN,
+  429: "too many requests or connections of this address",
+  503: FULL,
+};
 
 /**
  * No connection could be made. The client goes on trying, unless the first answer is a 404: then
@@ -81,7 +90,7 @@ export class HandshakeFailed extends Failure {
    * @param {number | null} [status]
    */
   constructor(reason, url, status = null) {
-    super(reason === "refused" ? refusal(url, status) : silence(url));
+    super(reason === "refused" ? refusal(url, status) : `nothing answers at ${url}: ${SILENT}`);
     this.reason = reason;
     this.status = status;
   }
@@ -90,12 +99,14 @@ export class HandshakeFailed extends Failure {
 /** @param {string} url @param {number | null} status */
 function refusal(url, status) {
   const refuses = `${url} refuses the connection`;
+  // A browser tells no page a 403 from a 503, and a page of another origin no status at all.
+  if (status === null) {
+    const page = globalThis.location ? `${FOREIGN}, or ` : "";
+    return `${refuses}: ${why(url, `${FULL}, or ${page}what answers is no relay`)}`;
+  }
   const none = `what answers there has no rooms${isWatching(url) ? " to watch" : ""}`;
-  if (status === 404) return `${refuses}, with 404: ${why(url, none)}`;
-  if (status === 503) return `${refuses}, with 503: ${FULL}`;
-  if (status !== null) return `${refuses}, with ${status}`;
-  // A page of another origin is not told the status.
-  return `${refuses}: ${why(url, `${FULL}, or what answers is no relay`)}`;
+  const cause = status === 404 ? why(url, none) : CAUSES[status];
+  return `${refuses}, with ${status}${cause ? `: ${cause}` : ""}`;
 }
 
 /**
@@ -118,9 +129,4 @@ function why(url, otherwise) {
  */
 export function isWatching(url) {
   return /^[^?#]*\/rooms\/[\w-]+\/watch$/.test(url);
-}
-
-/** @param {string} url */
-function silence(url) {
-  return `nothing answers at ${url}: start the relay there, or check the address and the port`;
 }

@@ -135,13 +135,10 @@ export class Follower {
   /** @param {Wanted} wanted @param {any} reply */
   #refuse({ number }, reply) {
     const refused = new Refused(reply);
-    for (const waiter of this.#waiters.filter((waiter) => waiter.number === number)) {
-      waiter.reject(refused);
-    }
-    this.#waiters = this.#waiters.filter((waiter) => waiter.number !== number);
+    for (const waiter of this.#leaving((asked) => asked === number)) waiter.reject(refused);
     if (this.#wanted.number !== number) return;
     if (this.#held.slots === null) return this.#on.refused(refused);
-    this.#wanted = this.#taken ?? { number: this.#held.number, view: this.#held.view };
+    this.#wanted = this.#taken ?? this.#held;
     if (this.#taken === null) this.#link.ask(this.#watching());
   }
 
@@ -159,15 +156,23 @@ export class Follower {
     else this.astray();
   }
 
+  /**
+   * The waiters of some numbers, which wait no more.
+   * @param {(number: number) => boolean} isOf
+   */
+  #leaving(isOf) {
+    const leaving = this.#waiters.filter(({ number }) => isOf(number));
+    this.#waiters = this.#waiters.filter(({ number }) => !isOf(number));
+    return leaving;
+  }
+
   /** @param {number} rev @param {readonly Slot[]} slots @param {Operation[] | null} patch */
   #take(rev, slots, patch) {
     const before = this.#held;
     const epoch = this.#link.welcome?.epoch ?? null;
     const seen = patch === null ? { .../** @type {Wanted} */ (this.#taken), epoch } : before;
     this.#held = { ...seen, slots, rev };
-    const { number } = this.#held;
-    const told = this.#waiters.filter((waiter) => waiter.number <= number);
-    this.#waiters = this.#waiters.filter((waiter) => waiter.number > number);
+    const told = this.#leaving((asked) => asked <= this.#held.number);
     try {
       this.#on.took(before, patch);
     } finally {

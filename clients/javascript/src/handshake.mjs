@@ -5,8 +5,8 @@
 import { HandshakeFailed, isWatching } from "./errors.mjs";
 
 // The status by which the relay answers a request that is no handshake, where the room's name is
-// good. A handshake was refused there for its place, or since the room that it only watches is not
-// there: that does not show.
+// good. So a handshake was refused there for its place, for the origin of a page, or since the room
+// that it only watches is not there: which of these does not show.
 const NO_HANDSHAKE = 400;
 const NO_PLACE = 503;
 const LONGEST = 2000;
@@ -18,7 +18,7 @@ export class Failures {
   #url;
   /** @type {HandshakeFailed | null} */
   #last = null;
-  #asked = 0; // when
+  #asked = 0; // when that was; 0 if it holds no more
 
   /** @param {string} url of the room, as `ws://HOST/rooms/NAME` */
   constructor(url) {
@@ -30,8 +30,7 @@ export class Failures {
    * @param {{ message?: string } | null} event of the socket
    */
   async newest(event) {
-    const isKept = globalThis.location !== undefined && Date.now() - this.#asked < HOLDS;
-    if (this.#last === null || !isKept) {
+    if (!globalThis.location || Date.now() - this.#asked > HOLDS) {
       this.#asked = Date.now();
       this.#last = await failure(this.#url, event);
     }
@@ -40,7 +39,7 @@ export class Failures {
 
   /** A handshake succeeded. */
   end() {
-    this.#last = null;
+    this.#asked = 0;
   }
 }
 
@@ -58,14 +57,14 @@ async function failure(url, event) {
   try {
     const { location } = globalThis;
     const address = new URL(url.replace(/^ws/, "http"), location?.href);
-    const isForeign = location !== undefined && location.origin !== address.origin;
+    const isForeign = location && location.origin !== address.origin;
     const { status } = await fetch(address, {
-      // Chromium asks nothing of another origin by `no-cors` unless it may follow.
-      ...(isForeign ? { mode: "no-cors", redirect: "follow" } : { redirect: "manual" }),
+      // By `no-cors` Chromium asks nothing of another origin unless it may follow redirections.
+      ...(isForeign ? { mode: "no-cors" } : { redirect: "manual" }),
       cache: "no-store",
       signal: ending.signal,
     });
-    const meant = isWatching(url) ? null : NO_PLACE;
+    const meant = location || isWatching(url) ? null : NO_PLACE;
     return new HandshakeFailed("refused", url, status === NO_HANDSHAKE ? meant : status || null);
   } catch {
     return new HandshakeFailed("unreachable", url);

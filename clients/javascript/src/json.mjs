@@ -76,7 +76,7 @@ export function parsed(text) {
  * @returns {T}
  */
 export function frozen(value) {
-  if (typeof value !== "object" || value === null || Object.isFrozen(value)) return value;
+  if (!isContainer(value) || Object.isFrozen(value)) return value;
   Object.freeze(value);
   const isList = Array.isArray(value);
   for (const part of isList ? value : Object.values(value)) {
@@ -91,7 +91,16 @@ export function frozen(value) {
  * @returns {value is Record<string, any>}
  */
 export function isObject(value) {
-  return typeof value === "object" && value !== null && !Array.isArray(value);
+  return isContainer(value) && !Array.isArray(value);
+}
+
+/**
+ * True if a value is a list, or has members.
+ * @param {unknown} value
+ * @returns {value is object}
+ */
+export function isContainer(value) {
+  return typeof value === "object" && value !== null;
 }
 
 /**
@@ -102,9 +111,7 @@ export function isObject(value) {
  */
 export function same(one, other) {
   if (one === other) return true;
-  if (one === null || other === null || typeof one !== "object" || typeof other !== "object") {
-    return false;
-  }
+  if (!isContainer(one) || !isContainer(other)) return false;
   if (Array.isArray(one) !== Array.isArray(other)) return false;
   const names = Object.keys(one);
   const [parts, others] = /** @type {Record<string, Json>[]} */ ([one, other]);

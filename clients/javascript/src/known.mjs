@@ -3,7 +3,7 @@
 // What an operation means to a slot (docs/PROTOCOL.md, "What a change means to a slot") follows:
 // the operation is done on what is known, and the slots are read again.
 import { index, tokens } from "./pointer.mjs";
-import { frozen, same } from "./json.mjs";
+import { frozen, isContainer, same } from "./json.mjs";
 import { Misfit, Owned, added, checkMove, has, removed, replaced } from "./patch.mjs";
 
 /**
@@ -419,6 +419,6 @@ export function slotOf(whole, shown) {
 
 /** @param {any} value @returns {Slot} */
 function sizeOf(value) {
-  if (typeof value !== "object" || value === null) return [];
+  if (!isContainer(value)) return [];
   return [Array.isArray(value) ? value.length : Object.keys(value).length];
 }

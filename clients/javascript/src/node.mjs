@@ -1,7 +1,7 @@
 // The parts of a draft: what was seen, each part by where it stood, and what is made of it. A part
 // keeps what it is when it is moved, so that the patch can be a move. Containers are opened when
 // they are looked into.
-import { DEEPEST, checked, isObject } from "./json.mjs";
+import { DEEPEST, checked, isContainer, isObject } from "./json.mjs";
 import { child } from "./known.mjs";
 import { index, spelled } from "./pointer.mjs";
 
@@ -40,8 +40,7 @@ export class Node {
   }
 
   get isContainer() {
-    const isObject = typeof this.#value === "object" && this.#value !== null;
-    return this.#kids !== null || this.isPartial || isObject;
+    return this.#kids !== null || this.isPartial || isContainer(this.#value);
   }
 
   /** True if it was looked into, so that something in it may be another one. */

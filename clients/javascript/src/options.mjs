@@ -1,5 +1,6 @@
 // The options that an application gives a call, checked before anything is done with it: a name
 // that nobody reads would change nothing, and nobody would hear of it.
+import { isObject } from "./json.mjs";
 
 /**
  * Fails with a `TypeError` where the call has no such option, and names the nearest one.
@@ -9,7 +10,7 @@
  * @param {readonly string[]} [own] what the client itself gives as well
  */
 export function checkOptions(call, options, names, own = []) {
-  if (typeof options !== "object" || options === null || Array.isArray(options)) {
+  if (!isObject(options)) {
     throw new TypeError(`the options of \`${call}\` are an object, not ${shown(options)}`);
   }
   const unknown = Object.keys(options).find((name) => ![...names, ...own].includes(name));
@@ -47,8 +48,8 @@ export function checkFunction(call, make) {
 
 /** @param {unknown} value */
 function shown(value) {
-  if (typeof value !== "object" || value === null) return String(value);
-  return Array.isArray(value) ? "a list" : "an object";
+  if (Array.isArray(value)) return "a list";
+  return isObject(value) ? "an object" : String(value);
 }
 
 /**

@@ -2,6 +2,7 @@
 // where it differs, so a value that was handed out stays what it was. A patch copies each container
 // once, however many of its operations change it.
 import { index, startsWith } from "./pointer.mjs";
+import { isContainer, isObject } from "./json.mjs";
 
 /** An operation does not fit the value. */
 export class Misfit extends Error {
@@ -21,7 +22,7 @@ export class Owned {
    * @param {any} part
    */
   writable(part) {
-    if (typeof part !== "object" || part === null) throw new Misfit();
+    if (!isContainer(part)) throw new Misfit();
     if (this.#made.has(part)) return part;
     const copy = Array.isArray(part) ? [...part] : { ...part }; // of a frozen list `slice` is slow
     this.#made.add(copy);
@@ -55,7 +56,7 @@ export function checkMove(from, path) {
 /** @param {any} part @param {string} token */
 export function has(part, token) {
   if (Array.isArray(part)) return (index(token) ?? part.length) < part.length;
-  return typeof part === "object" && part !== null && Object.hasOwn(part, token);
+  return isObject(part) && Object.hasOwn(part, token);
 }
 
 /** @param {any} whole @param {readonly string[]} path */

@@ -201,7 +201,8 @@ export class Place {
   #cover() {
     const { view } = this.#source;
     const at = view.findIndex((shown) => same(shown, this.#shown));
-    if (at >= 0 || typeof this.#shown !== "string") return { at, rest: [] };
+    if (at >= 0) return { at, rest: [] };
+    if (typeof this.#shown !== "string") return null;
     const outer = view.findIndex(
       (shown) => typeof shown === "string" && startsWith(this.#path, tokens(shown)),
     );

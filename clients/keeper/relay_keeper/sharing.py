@@ -2,9 +2,10 @@
 
 The relay lets clients into no room by itself. A room that one was refused at is taken, if no other
 relay has it, and asked for else. The keeper is in each room that its relay has, from the moment
-that it is open. One that nobody else is in for a while is given up, and one that another keeper
-asks for, unless it was taken just now: two proxies that disagree for a moment do not move it to and
-fro.
+that it is open, but begins none: one that the store does not know may be wanted by those alone who
+only watch. A room is given up if nobody else is in it for a while, or if nobody begins it. So is
+one that another keeper asks for, unless it was taken just now: two proxies that disagree for a
+moment do not move it to and fro.
 """
 from __future__ import annotations
 
@@ -12,17 +13,18 @@ import asyncio
 import functools
 import logging
 from concurrent.futures import Executor, ThreadPoolExecutor
-from typing import Any, Callable, Coroutine, Dict, Optional, TypeVar
+from typing import Any, Callable, Coroutine, Dict, List, Optional, TypeVar
 
-from .admin import Admin, NoAnswer
+from .admin import Admin, Listed, NoAnswer
 from .moving import Moving, NotOpened
 from .room import Means
 from .rooms import Rooms
 from .shared import Shared
 from .store import StoreFailed
 
-LOOK, LIST = 0.1, 1.0
-"""Seconds from one look at what is wanted to the next one, and from one list of the rooms."""
+LOOK, LIST, SOON = 0.1, 1.0, 0.2
+"""Seconds from one look at what is wanted to the next one; from one list of the rooms; and from one
+list while there is an open room that nobody began."""
 WANTED = 5.0
 """Seconds for which a room is wanted that a client was refused at."""
 STAY = 10.0
@@ -34,7 +36,7 @@ AGAIN = 1.0
 """Seconds until a room is asked for again, or what failed is tried again, or a room is taken back
 that was given to another relay."""
 ENTERING = 5.0
-"""Seconds after which the keeper is in a room that was opened."""
+"""Seconds after which a room that was opened is begun, and the keeper is in it."""
 STARTING = 60.0
 """Seconds that the relay may take to begin."""
 MOVES, CLOSED = 3, 12
@@ -126,13 +128,27 @@ class Sharing:
                 self._move(room, self._give)
         if now >= self._list_at:
             self._list_at = now + LIST
-            await self._find_empty()
+            listed = await self._off(self._admin.rooms)
+            self._enter_begun(listed)
+            self._find_empty(listed)
+            if self._not_entered():
+                self._list_at = now + SOON
 
-    async def _find_empty(self) -> None:
-        now, listed = self._loop.time(), await self._off(self._admin.rooms)
+    def _not_entered(self) -> List[str]:
+        """Rooms that are open and that the keeper is not in, since nobody began them."""
+        taken = [room for room in self._taken if room not in self._moves]
+        return [room for room in taken if self.rooms.get(room) is None]
+
+    def _enter_begun(self, listed: Dict[str, Listed]) -> None:
+        for room in self._not_entered():
+            if room in listed:
+                self.rooms.enter(room)
+
+    def _find_empty(self, listed: Dict[str, Listed]) -> None:
+        now = self._loop.time()
         for room in [room for room, at in self._taken.items() if now - at > ENTERING]:
             if room not in listed:
-                self._move(room, self._give_up)  # the relay is in another run
+                self._move(room, self._give_up)  # nobody began it, or the relay is in another run
             elif listed[room].sessions > 1:
                 self._empty.pop(room, None)
             elif now - self._empty.setdefault(room, now) >= self._idle:
@@ -160,9 +176,22 @@ class Sharing:
         if not is_taken:
             await self._ask_for(room)
             return
+        is_begun = await self._is_begun(room)
         self._forget(room)
         self._taken[room] = self._loop.time()
-        self.rooms.enter(room)
+        if is_begun:
+            self.rooms.enter(room)
+        else:
+            self._list_at = 0.0
+
+    async def _is_begun(self, room: str) -> bool:
+        """Its document was put back, or a client began it. If that is not told, the list of the
+        rooms tells it later."""
+        try:
+            tag = await self._off(lambda: self._admin.tag(room), self._moving_threads)
+        except NoAnswer:
+            return False
+        return tag is not None
 
     async def _ask_for(self, room: str) -> None:
         if self._loop.time() - self._asked.get(room, -AGAIN) >= AGAIN:

@@ -89,7 +89,11 @@ def _keep(commands: "argparse._SubParsersAction[argparse.ArgumentParser]") -> No
         metavar="SECONDS",
         help="from one list of the rooms to the next one (%(default)s)",
     )
-    _match(command, "also the rooms that match, as 'board-*'; may be given again. Without --admin")
+    _match(
+        command,
+        "also the rooms that match, as 'board-*': of the relay with --admin, else of the store "
+        "and of --list; may be given again",
+    )
     command.add_argument(
         "--list", type=pathlib.Path, metavar="FILE", help="names for --match, one a line"
     )

@@ -36,7 +36,7 @@ A relay that listens on port 8080 runs these as they stand, in this order:
     relay-client edit ws://127.0.0.1:8080/rooms/shop - --base 1
 
 It exits with 0 if all was done, 1 if the relay refused it, 2 if the words are wrong or the address
-is none of a room, and 3 if there is no relay, or no room to watch yet, or the connection was lost
+is none of a room, and 3 if there is no relay, or it lets nobody in, or the connection was lost
 before the answer.
 """
 GET = """Prints the value at each pointer, by default the whole document. If one of them leads to

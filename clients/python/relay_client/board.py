@@ -23,7 +23,7 @@ from .requests import Edit, Setting, beginning
 from .said import Said
 from .transport import OpenLink, websocket
 from .undo import History, Inverse, OwnEdit, fits
-from .values import Json, Operation, Patch, Slots, State, View, as_json
+from .values import Json, Operation, Patch, Shown, Slots, State, View, as_json
 from .warning import warning
 
 TRIES = 20
@@ -173,9 +173,9 @@ class Board:
         """The number of edits that `redo` can do again."""
         return self._history.redoable
 
-    def at(self, pointer: str) -> Place:
-        """One value of the view, or within it."""
-        return Place(self, pointer)
+    def at(self, shown: Shown) -> Place:
+        """One value of the view, or within it; or a size of the view, as {"size": "/cards"}."""
+        return Place(self, shown)
 
     def subscribe(self, listener: Listener) -> Callable[[], None]:
         """Tells a listener of each change from now on. Gives what ends it."""

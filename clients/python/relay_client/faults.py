@@ -55,7 +55,11 @@ class Closed(Exception):
         super().__init__("the board is closed")
 
 
-_FULL = "it is full (--sessions, --rooms), --closed, or stopping"
+_CAUSES = {
+    403: "it lets no page of this origin in (--origin)",
+    429: "too many requests or connections of this address",
+    503: "it is full (--sessions, --rooms), --closed, or stopping",
+}
 _NO_ROOMS = "what answers there has no rooms"
 _NO_ROOM_YET = f"there is no room of this name yet, or {_NO_ROOMS} to watch"
 
@@ -78,8 +82,8 @@ class HandshakeFailed(Exception):
         """`refused`, if something answered the handshake with another status than 101;
         `unreachable`, if nothing answered."""
         self.status = status
-        """The status of the answer, as 404 for a bad target and 503 for a relay without a place;
-        None if nothing answered."""
+        """The status of the answer, as 403 for an origin that may not enter, 404 for a bad target
+        and 503 for a relay without a place; None if nothing answered."""
         self._detail = detail
 
     def at(self, url: str) -> "HandshakeFailed":
@@ -92,8 +96,8 @@ class HandshakeFailed(Exception):
 def _refusal(url: str, status: Optional[int]) -> str:
     if status is None:
         return f"{url} refuses the connection"
-    advice = {404: f": {_not_found(url)}", 503: f": {_FULL}"}.get(status, "")
-    return f"{url} refuses the connection, with {status}{advice}"
+    cause = _not_found(url) if status == 404 else _CAUSES.get(status, "")
+    return f"{url} refuses the connection, with {status}" + (cause and f": {cause}")
 
 
 def _not_found(url: str) -> str:
@@ -107,4 +111,5 @@ def _not_found(url: str) -> str:
 
 
 def _silence(url: str) -> str:
-    return f"nothing answers at {url}: start the relay there, or check the address and the port"
+    advice = "start the relay there, or check the address, the port and --per-peer"
+    return f"nothing answers at {url}: {advice}"

@@ -10,19 +10,19 @@ from .draft import Draft, DraftList
 from .elements import Keyed, followed
 from .follower import Held
 from .known import ABSENT, Part, at, is_value, known_by
-from .pointers import Path, spelled, tokens
-from .values import Json, Operation, Slot, Slots, View, same
+from .pointers import Path, shown_path, spelled
+from .values import Json, Operation, Shown, Slot, Slots, View, same
 
 if TYPE_CHECKING:
     from .board import Board
 
 
 class Place:
-    """The value at a pointer that a board's view shows, by itself or as a part of another one.
-    `LookupError` if it does not."""
+    """The value at a pointer that a board's view shows, by itself or as a part of another one; or
+    a size that is in the view, which is only read. `LookupError` if the view does not show it."""
 
-    def __init__(self, board: "Board", pointer: str):
-        self._board, self._path = board, tokens(pointer)
+    def __init__(self, board: "Board", shown: Shown):
+        self._board, self._shown, self._path = board, shown, shown_path(shown)
 
     @property
     def value(self) -> Json:
@@ -77,6 +77,7 @@ class Place:
         meanwhile the newest is sent, unless something else is asked for in between. With `parents`
         the objects that are missing around it are made, in the same patch. Then the edit has a
         base, and is made anew if others were faster."""
+        self._check_set()
         slots = self._board.slots
         if slots is None:
             raise LookupError("the slots are not there yet")
@@ -152,6 +153,7 @@ class Place:
     def change_list(
         self, make: Callable[[DraftList], Any], *, key: Optional[str] = None, **options: Any
     ) -> "asyncio.Future[int]":
+        self._check_set()
         keys = {} if key is None else {spelled(self._path): key}
 
         def made(draft: Draft) -> None:
@@ -163,10 +165,20 @@ class Place:
         return self._board.change_draft(made, keys, ChangeOptions(**options))
 
     def _slot(self, view: View, slots: Slots) -> Slot:
+        if self._is_size and self._shown in view:
+            return slots[view.index(self._shown)]
         part: Part = at(known_by(view, slots), self._path)
-        if part is not ABSENT and not is_value(part):
-            raise LookupError(f"{spelled(self._path)} is not in the view {view}")
+        if self._is_size or (part is not ABSENT and not is_value(part)):
+            raise LookupError(f"{self._shown} is not in the view {view}")
         return [] if part is ABSENT else [part]
+
+    @property
+    def _is_size(self) -> bool:
+        return not isinstance(self._shown, str)
+
+    def _check_set(self) -> None:
+        if self._is_size:
+            raise TypeError("a size is not set: what it counts is")
 
     def _missing(self, view: View, slots: Slots) -> Sequence[Path]:
         """The containers around it that are known not to be there, outer ones first."""
@@ -189,6 +201,7 @@ class Place:
         return patch
 
     def _setting(self, slot: Slot, value: Json) -> Operation:
+        self._check_set()
         return {"op": "replace" if slot else "add", "path": spelled(self._path), "value": value}
 
 

@@ -397,6 +397,25 @@ class Listening(unittest.IsolatedAsyncioTestCase):
             self.relay.last["patch"], [{"op": "replace", "path": "/cards/0", "value": "bread"}]
         )
 
+    async def test_a_size_is_read_alone(self):
+        relay = FakeRelay()
+        board = await relay.begin(["/n", {"size": "/cards"}], [[1], [2]])
+        size = board.at({"size": "/cards"})
+        self.assertEqual((size.value, size.confirmed, size.slot), (2, 2, [2]))
+        for pointer in ("/cards", {"size": "/n"}):
+            with self.assertRaisesRegex(LookupError, "is not in the view"):
+                board.at(pointer).value
+        heard = []
+        size.subscribe(heard.append)
+        await relay.say(patch(2, {"op": "replace", "path": "/1", "value": [3]}))
+        self.assertEqual(heard, [3])
+        for write in (size.set, size.push):
+            with self.assertRaisesRegex(TypeError, "a size is not set"):
+                write(4)
+        with self.assertRaisesRegex(TypeError, "a size is not set"):
+            await size.update(lambda cards: cards + 1)
+        await board.close()
+
     async def test_update_is_made_anew_while_others_are_faster(self):
         asked = []
         update = asyncio.ensure_future(

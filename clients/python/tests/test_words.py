@@ -112,7 +112,8 @@ class Words(unittest.IsolatedAsyncioTestCase):
             board = relay_client.connect(URL, view=[""], open_link=relay.open_link, first_wait=0)
             await relay.until_link(1)
         await board.close()
-        says = f"nothing answers at {URL}: start the relay there, or check the address and the port"
+        advice = "start the relay there, or check the address, the port and --per-peer"
+        says = f"nothing answers at {URL}: {advice}"
         self.assertEqual(
             [line.getMessage() for line in logged.records], [f"{says}; it is tried again"]
         )
@@ -130,6 +131,14 @@ class Words(unittest.IsolatedAsyncioTestCase):
         ]:
             failed = relay_client.HandshakeFailed("refused", 404, url=url)
             self.assertEqual(str(failed), f"{url} {refuses} {words}")
+        for status, words in [
+            (403, ": it lets no page of this origin in (--origin)"),
+            (429, ": too many requests or connections of this address"),
+            (502, ""),
+            (503, ": it is full (--sessions, --rooms), --closed, or stopping"),
+        ]:
+            failed = relay_client.HandshakeFailed("refused", status, url=URL)
+            self.assertEqual(str(failed), f"{URL} refuses the connection, with {status}{words}")
         missing = relay_client.Refused("missing", 0)
         self.assertIn("missing at 0: nothing stands there: look again", str(missing))
 

@@ -1,6 +1,7 @@
 package relay.client;
 
 import java.net.URI;
+import java.util.Map;
 
 /** The failure of what was asked for, or the cause if there is no connection. */
 public abstract class RelayException extends RuntimeException {
@@ -79,8 +80,12 @@ public abstract class RelayException extends RuntimeException {
     public static final class HandshakeFailed extends RelayException {
         private static final long serialVersionUID = 1;
         private static final String UNREACHABLE = "the relay cannot be reached";
-        private static final String FULL =
-                "it is full (--sessions, --rooms), --closed, or stopping";
+        private static final String CHECK =
+                "start the relay there, or check the address, the port and --per-peer";
+        private static final Map<Integer, String> CAUSES = Map.of(
+                403, "it lets no page of this origin in (--origin)",
+                429, "too many requests or connections of this address",
+                503, "it is full (--sessions, --rooms), --closed, or stopping");
         private static final String NO_ROOM_YET =
                 "there is no room of this name yet, or what answers there has no rooms to watch";
         /** The status of the answer, as 503 of a relay without a place; null if none came. */
@@ -102,10 +107,10 @@ public abstract class RelayException extends RuntimeException {
         }
 
         private String words(URI address) {
-            if (status == null) return UNREACHABLE + ", at " + address;
+            if (status == null) return "nothing answers at " + address + ": " + CHECK;
             String words = address + " refuses the connection, with " + status;
             if (status == 404) return words + ": " + notFound(address);
-            return status == 503 ? words + ": " + FULL : words;
+            return CAUSES.containsKey(status) ? words + ": " + CAUSES.get(status) : words;
         }
 
         /** Tells what is wrong with an address, as far as it shows. */

@@ -82,6 +82,32 @@ final class BoardTest {
         return board.ready().handle((slots, failure) -> failure.getMessage()).join();
     }
 
+    static void eachStatusThatIsTriedAgainSaysItsOwnThing() {
+        String refuses = "ws://h/rooms/a refuses the connection, with ";
+        String foreign = ": it lets no page of this origin in (--origin)";
+        equal(refuses + 403 + foreign, whyItWaits(403));
+        String often = ": too many requests or connections of this address";
+        equal(refuses + 429 + often, whyItWaits(429));
+        equal(refuses + 502, whyItWaits(502));
+        String full = ": it is full (--sessions, --rooms), --closed, or stopping";
+        equal(refuses + 503 + full, whyItWaits(503));
+        String silent = "nothing answers at ws://h/rooms/a: start the relay there, or check the "
+                + "address, the port and --per-peer";
+        equal(silent, whyItWaits(null));
+    }
+
+    private static String whyItWaits(Integer status) {
+        Played relay = new Played();
+        List<String> causes = new ArrayList<>();
+        Options options = relay.options().onState((state, cause) -> {
+            if (cause != null) causes.add(cause.getMessage());
+        });
+        Board board = Board.connect("ws://h/rooms/a", options, "");
+        relay.refuse(status);
+        board.close();
+        return causes.get(0);
+    }
+
     static void whoOnlyWatchesWaitsUntilTheRoomIsThere() {
         String yet = " refuses the connection, with 404: there is no room of this name yet, "
                 + "or what answers there has no rooms to watch";

@@ -55,8 +55,8 @@ final class Played implements Connector {
         hear("{'epoch':" + epoch + ",'kind':'welcome','rev':" + rev + ",'session':1}");
     }
 
-    /** Answers the client's next handshake with a status. */
-    void refuse(int status) {
+    /** Answers the client's next handshake with a status; if it is null, not at all. */
+    void refuse(Integer status) {
         next(opened).lost(new RelayException.HandshakeFailed(status, null));
     }
 
