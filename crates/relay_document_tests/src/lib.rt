@@ -1,5 +1,5 @@
-//! Tests of what documents are made of and changed by: trees, pointers, patches, views, and their
-//! translation.
+//! Tests of what documents are made of and changed by: trees, pointers, patches, views, their
+//! translation, and the audiences of views.
 //!
 //! They call what stands alone with success, and show what no script can: limits that a caller
 //! chooses, and calls that only other crates make. What is done within a budget (`apply_within`,
@@ -8,6 +8,8 @@
 //! proof next to nothing, and a function that asserts it much.
 #![tactic(auto)]
 
+#[cfg(test)]
+mod audience;
 #[cfg(test)]
 mod change;
 #[cfg(test)]

@@ -3,6 +3,7 @@ use crate::change::changes_text;
 use crate::shared::{nothing, patch_of, view_of};
 use crate::tree;
 use relay_apply::apply;
+use relay_audience::Audiences;
 use relay_patch::{Bounds, Change, Patch};
 use relay_pointer::{MAX_TOKENS, Pointer};
 use relay_test_stream::{Subject, cut, play};
@@ -13,7 +14,7 @@ use std::alloc::{AllocGlobal, Global};
 use std::process::Abort;
 
 /// The document, the pointer, the view and the patch that were named last, the changes that were
-/// made last, and the views that sessions watch.
+/// made last, the views that sessions watch, and the audiences of a room.
 #[derive(Drop)]
 pub(crate) struct Stage {
     pub(crate) tree: Tree,
@@ -22,6 +23,7 @@ pub(crate) struct Stage {
     pub(crate) patch: Patch,
     pub(crate) changes: Vec<Change>,
     pub(crate) index: WatchIndex,
+    pub(crate) audiences: Audiences,
 }
 
 impl Stage {
@@ -34,6 +36,7 @@ impl Stage {
             patch: Patch::from_ops(Vec::new(alloc)),
             changes: Vec::new(alloc),
             index: WatchIndex::new(alloc),
+            audiences: Audiences::new(alloc),
         })
     }
 }

@@ -1,3 +1,4 @@
+use crate::audience;
 use crate::shared::{nothing, shown, view_of};
 use crate::stage::{Stage, play_anew};
 use relay_patch::Change;
@@ -152,8 +153,7 @@ fn a_change_is_told_to_the_slots_that_it_touches(rt: HostRuntime) {
     play_anew(&rt, STAYING);
 }
 
-/// Does an act on the last change, or on the views of sessions. An act that is unknown here too
-/// gives nothing.
+/// Does an act on the last change, or on the views of sessions.
 pub(crate) fn done(alloc: Global, stage: &mut Stage, verb: &str, rest: &str) -> Option<String> {
     match verb {
         "relay" => relay(alloc, stage),
@@ -171,7 +171,7 @@ pub(crate) fn done(alloc: Global, stage: &mut Stage, verb: &str, rest: &str) -> 
             nothing(alloc)
         },
         "sessions" => sessions(alloc, &stage.index, stage.changes.first()),
-        _ => None,
+        _ => audience::done(alloc, stage, verb, rest),
     }
 }
 

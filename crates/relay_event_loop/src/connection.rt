@@ -10,7 +10,7 @@ use crate::connection_log::{ConnectionId, HandshakeRefusal, RoomSession};
 use crate::ready::{StreamReadiness, TrackedStream};
 use relay_hub::{Hub, OpenFault};
 use relay_link::{Link, Stage, Turn};
-use relay_operator::StreamReady;
+use relay_readiness::StreamReady;
 use relay_schedule::{Credit, LinkOutput, Output, Wants};
 use std::alloc::{AllocError, Global};
 use std::cell::Cell;

@@ -3,7 +3,7 @@
 ghost use Rattle.std.specs.Prelude.{◌≡◌, IfOk};
 ghost use Rattle.relay_event_loop.specs.Ready.{left_of, contents_of};
 
-use relay_operator::StreamReady;
+use relay_readiness::StreamReady;
 use std::alloc::{AllocError, Global};
 use std::cell::Cell;
 use std::io;

@@ -29,7 +29,7 @@ use forgetting::RoomVacancies;
 use indexmap::IndexMap;
 use relay_hub::{Hub, HubConfig};
 use relay_link::{EntryRules, Watchers};
-use relay_operator::{Readiness, ReadyEvent};
+use relay_readiness::{Readiness, ReadyEvent};
 use relay_schedule::{OutputTotal, Queues, ReadAheadByRoom, ReadAheadLimits};
 use relay_tree::Budget;
 use slab::Slab;
@@ -206,8 +206,9 @@ impl<S: Read + Write + OpenStream + Drop, R: Readiness<S>> Server<S, R> {
     ///   stream is writable, gets a write turn, which draws and sends up to 32 messages, each time
     ///   starting with the one that has waited longest. Each of these two passes stops at 256 KiB;
     ///   links that it did not reach come first in the next pass of its kind;
-    /// - reads likewise from connections that owe, from one at least, and from those that have
-    ///   credit by then, until the turns of the round have cost 5 ms;
+    /// - reads likewise from connections that owe, from one at least whose turns were each cheap,
+    ///   and from one at least of the others, and from those that have credit by then, until the
+    ///   turns of the round have cost 5 ms;
     /// - does the wills of the sessions that were closed: one at least, and others until the turns
     ///   of the round have cost 5 ms, or the last one's room may not be read ahead. What is left is
     ///   done in the next round, which does not wait. Out of memory leaves a will likewise;
@@ -220,11 +221,11 @@ impl<S: Read + Write + OpenStream + Drop, R: Readiness<S>> Server<S, R> {
     /// connections waits to be written to, or less was said there, since the last time that nobody
     /// did, than half of what may wait for a session. So a client that has credit waits for one
     /// turn of each other that has credit; those who owe have what is left of the 5 ms, and one
-    /// turn at least. Once memory was refused to a turn, the hub gives some back
-    /// ([`relay_hub::Hub::shed`]), so that resumes and waiting patches become snapshots. What was
-    /// to be drawn is drawn in a later round; but a link ends if there is no memory for a text that
-    /// it read, or for the frame of one that it drew. Links that are gone are dropped. If it is
-    /// unknown what is ready, everything counts as ready.
+    /// turn of either debt at least ([`relay_schedule::Debt`]). Once memory was refused to a turn,
+    /// the hub gives some back ([`relay_hub::Hub::shed`]), so that resumes and waiting patches
+    /// become snapshots. What was to be drawn is drawn in a later round; but a link ends if there
+    /// is no memory for a text that it read, or for the frame of one that it drew. Links that are
+    /// gone are dropped. If it is unknown what is ready, everything counts as ready.
     ///
     /// A link whose stream takes less than a sixteenth of what waits in 30 seconds is ended. While
     /// the links hold three quarters of the output that they may, a snapshot of a document that

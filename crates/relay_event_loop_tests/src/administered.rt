@@ -2,7 +2,8 @@
 use crate::memory_server::{MemoryListener, ReadinessScript, ScriptedReadiness};
 use relay_event_loop::{Entrance, NoLog, Server};
 use relay_hub::{Hub, HubConfig};
-use relay_operator::{AdminPort, AdminReadiness, ReadyEvent};
+use relay_operator::AdminPort;
+use relay_readiness::{AdminReadiness, ReadyEvent};
 use relay_test_stream::{End, Subject, Wire, cut, play, push_summary};
 use std::alloc::{AllocGlobal, Global};
 use std::cell::{RefCell, RefMut};

@@ -2,7 +2,7 @@
 use crate::memory_server::{MemoryServer, ReadinessScript};
 use relay_event_loop::Entrance;
 use relay_hub::HubConfig;
-use relay_operator::{ReadyEvent, StreamReady};
+use relay_readiness::{ReadyEvent, StreamReady};
 use relay_test_stream::{Subject, Wire, cut, play, push_summary};
 use relay_tree::Budget;
 use std::alloc::{AllocGlobal, Global};
@@ -82,6 +82,8 @@ fn play_case(rt: &(impl Abort + AllocGlobal), case: &str) {
     let wires = wires(rt.alloc()).expect(rt, "memory");
     let mut clients = Clients::new(rt.alloc(), &script, wires.as_slice()).expect(rt, "memory");
     play(rt, &mut clients, case).expect(rt, "each row holds");
+    // Whole, since the borrow checker does not cover the end of parts that nest so deep.
+    drop(clients);
 }
 
 /// New wires.

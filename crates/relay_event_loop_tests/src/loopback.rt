@@ -3,7 +3,7 @@ use relay_access::Access;
 use relay_event_loop::{NoLog, Server};
 use relay_hub::Hub;
 use relay_loopback::{Client, ClientHandshake};
-use relay_operator::Polling;
+use relay_readiness::Polling;
 use relay_test_stream::{Subject, cut, play};
 use std::alloc::{AllocGlobal, Global};
 use std::net::{Ipv4Addr, Net, OpenListener, OpenStream, SocketAddr};

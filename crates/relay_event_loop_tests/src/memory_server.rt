@@ -1,7 +1,7 @@
 //! A server over in-memory streams, whose readiness the test controls.
 use relay_event_loop::{ConnectionLog, LogEntry, Server};
 use relay_hub::{Hub, HubConfig};
-use relay_operator::{Readiness, ReadyEvent};
+use relay_readiness::{Readiness, ReadyEvent};
 use relay_test_stream::{End, Wire};
 use std::alloc::Global;
 use std::cell::{RefCell, RefMut};

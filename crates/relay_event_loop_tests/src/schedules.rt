@@ -1,6 +1,6 @@
 //! The scheduler by itself: random schedules, compared with a model that keeps plain lists.
 use crate::numbers::Numbers;
-use relay_schedule::{Credit, ROUND_CREDIT, ReadyQueue};
+use relay_schedule::{Credit, Debt, HEAVY_TURN, ROUND_CREDIT, ReadyQueue};
 use std::alloc::{AllocGlobal, Global};
 
 /// The number of schedules, of the steps of each, and of its keys.
@@ -46,20 +46,27 @@ impl Line {
     }
 }
 
-/// Those with credit and those who owe.
+/// The three lines.
 #[derive(Drop)]
 struct Model {
     credited: Line,
-    owing: Line,
+    light: Line,
+    heavy: Line,
 }
+
+/// The line in which a connection stands: `None` if it has credit.
+type Standing = Option<Debt>;
 
 impl Model {
     /// Puts a key that stands in no line behind all others, or behind those of the pass alone.
-    fn put(&mut self, key: usize, owes: bool, is_skipped: bool) -> Option<()> {
-        if self.credited.contains(key) || self.owing.contains(key) {
+    fn put(&mut self, key: usize, standing: Standing, is_skipped: bool) -> Option<()> {
+        let stands = self.credited.contains(key)
+            || self.light.contains(key)
+            || self.heavy.contains(key);
+        if stands {
             return Some(());
         }
-        let line = self.line(owes);
+        let line = self.line(standing);
         if is_skipped {
             line.waiting.push(key).ok()
         } else {
@@ -67,11 +74,11 @@ impl Model {
         }
     }
 
-    fn line(&mut self, owes: bool) -> &mut Line {
-        if owes {
-            &mut self.owing
-        } else {
-            &mut self.credited
+    fn line(&mut self, standing: Standing) -> &mut Line {
+        match standing {
+            None => &mut self.credited,
+            Some(Debt::Light) => &mut self.light,
+            Some(Debt::Heavy) => &mut self.heavy,
         }
     }
 }
@@ -91,52 +98,72 @@ impl Pair {
             queue,
             model: Model {
                 credited: Line::new(alloc),
-                owing: Line::new(alloc),
+                light: Line::new(alloc),
+                heavy: Line::new(alloc),
             },
         })
     }
 
     /// A step, as the numbers have it. Returns whether both came to the same.
     fn step(&mut self, numbers: &mut Numbers) -> Option<bool> {
-        let owes = numbers.below(2) == 0;
+        let standing = match numbers.below(3) {
+            0 => None,
+            1 => Some(Debt::Light),
+            _ => Some(Debt::Heavy),
+        };
         match numbers.below(6) {
-            0 | 1 => return Some(self.pop(owes)),
-            2 => self.begin_pass(owes)?,
-            3 => self.put(numbers.below(KEYS) as usize, owes, true)?,
-            _ => self.put(numbers.below(KEYS) as usize, owes, false)?,
+            0 | 1 => return Some(self.pop(standing)),
+            2 => self.begin_pass(standing)?,
+            3 => self.put(numbers.below(KEYS) as usize, standing, true)?,
+            _ => self.put(numbers.below(KEYS) as usize, standing, false)?,
         }
         Some(true)
     }
 
-    fn put(&mut self, key: usize, owes: bool, is_skipped: bool) -> Option<()> {
-        let spent = if owes { ROUND_CREDIT } else { ROUND_CREDIT - 1 };
-        let round = self.queue.round();
-        let credit = Credit { spent, round };
+    fn put(&mut self, key: usize, standing: Standing, is_skipped: bool) -> Option<()> {
+        let credit = credit_of(standing, self.queue.round());
         if is_skipped {
             self.queue.skip(key, credit);
         } else {
             self.queue.push(key, credit);
         }
-        self.model.put(key, owes, is_skipped)
+        self.model.put(key, standing, is_skipped)
     }
 
-    fn begin_pass(&mut self, owes: bool) -> Option<()> {
-        if owes {
-            self.queue.begin_owing_pass();
-        } else {
+    /// Begins a pass of those with credit, or of all who owe.
+    fn begin_pass(&mut self, standing: Standing) -> Option<()> {
+        if standing.is_none() {
             self.queue.begin_credited_pass();
+            return self.model.credited.begin_pass();
         }
-        self.model.line(owes).begin_pass()
+        self.queue.begin_owing_pass();
+        self.model.light.begin_pass()?;
+        self.model.heavy.begin_pass()
     }
 
-    fn pop(&mut self, owes: bool) -> bool {
-        let popped = if owes {
-            self.queue.pop_owing()
-        } else {
-            self.queue.pop_credited()
+    fn pop(&mut self, standing: Standing) -> bool {
+        let popped = match standing {
+            None => self.queue.pop_credited(),
+            Some(debt) => self.queue.pop_owing(debt),
         };
-        popped == self.model.line(owes).pop()
+        popped == self.model.line(standing).pop()
     }
+}
+
+/// The credit of a connection that stands there.
+fn credit_of(standing: Standing, round: u64) -> Credit {
+    let mut credit = Credit::fresh(round);
+    match standing {
+        None => credit.charge(ROUND_CREDIT - 1),
+        Some(Debt::Light) => {
+            let dearest = HEAVY_TURN - 1;
+            for _ in 0..ROUND_CREDIT.div_ceil(dearest) {
+                credit.charge(dearest);
+            }
+        }
+        Some(Debt::Heavy) => credit.charge(ROUND_CREDIT.max(HEAVY_TURN)),
+    }
+    credit
 }
 
 fn schedule(alloc: Global, seed: u64) -> Option<bool> {

@@ -25,6 +25,16 @@ each 3 send says {"do":"edit","id":3,"patch":[{"op":"add","path":"","value":["aa
 3 edit-beside 3 => 1 and 1 of the others, 2 writes
 edit-beside 3 => 1 and 0 of the others, 1 writes
 
+# A newcomer, whose turns were each cheap, has its answer in each round, beside one turn of those whose turns were not.
+server waiting=256
+each 4 enter
+12 each 4 wire stretches 30000 {"do":"edit","id":3,"patch":[{"op":"add","path":"","value":["*"]},{"op":"copy","from":"","path":"/-"},{"op":"copy","from":"","path":"/-"},{"op":"copy","from":"","path":"/-"}]}
+each 4 readable
+rounds 6
+enter 4
+each 5 clear
+3 edit-beside 4 => 1 and 1 of the others, 1 writes
+
 # Texts of those who owe that cost little are all received in one round.
 server waiting=256
 each 19 enter

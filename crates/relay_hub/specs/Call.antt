@@ -1,9 +1,8 @@
 -- Calls as events: what each one answers, when it is a step, and runs of steps.
 use Rattle.std.specs.Prelude.{◌≡◌, ℕ, ◌<◌, ◌≤◌, length, List, [], ◌∷◌, Option, Some, None}
-use Rattle.std.specs.Prelude.{option_map, Result, Ok, Err, slice_get, string_bytes}
+use Rattle.std.specs.Prelude.{option_map, Result, Ok, Err, slice_get}
 use Rattle.std.specs.Global.{Vec}
 use Rattle.std.specs.declared.alloc.AllocError.{AllocError}
-use Rattle.std.specs.declared.string.String.{String}
 use Rattle.relay_outbox.specs.declared.outbox.TheConstants.{MAX_REPLIES}
 use Rattle.relay_hub.specs.Log.{Log, entry}
 use Rattle.relay_hub.specs.Session.{Session}
@@ -44,8 +43,8 @@ abbrev pub receiving : Result Heard HubFault → Option Answer
 receiving (Ok heard) = Some (answer.Heard heard)
 receiving (Err fault) = not_served fault
 
-abbrev pub drawing : {A : Type 0} → Result (Option (String A)) HubFault → Option Answer
-drawing (Ok text) = Some (answer.Drawn (option_map string_bytes text))
+abbrev pub drawing : Result (Option (List ℕ)) HubFault → Option Answer
+drawing (Ok text) = Some (answer.Drawn text)
 drawing (Err fault) = not_served fault
 
 abbrev pub closing : Result (Unit {0}) NoSession → Answer

@@ -4,6 +4,7 @@ ghost use Rattle.std.specs.Prelude.{◌≡◌};
 ghost use Rattle.relay_patch.specs.Weight.{ops_weight};
 ghost use Rattle.relay_hub.specs.EncodedPatch.{counted};
 
+use bytes::ByteStr;
 use relay_patch::Patch;
 use relay_proto::patch_text;
 use relay_tree::Budget;
@@ -16,7 +17,7 @@ use std::rc::Rc;
 struct Encoding {
     rev: u64,
     patch: Patch,
-    text: String,
+    text: ByteStr,
     /// The weight of the patch; `None` if it does not fit in 64 bits.
     weight: Option<u64>,
 }
@@ -29,7 +30,7 @@ pub struct EncodedPatch {
 }
 
 impl Model for EncodedPatch {
-    ghost use Rattle.std.specs.Prelude.{◌≡◌, ℕ, List, string_bytes};
+    ghost use Rattle.std.specs.Prelude.{◌≡◌, ℕ, List};
     ghost use Rattle.std.specs.Coded.{coded×, coded_ℕ, coded_list};
     ghost use Rattle.relay_patch.specs.contracts.op.Op as op;
     ghost use Rattle.relay_patch.specs.declared.op.Op.{Op};
@@ -42,13 +43,13 @@ impl Model for EncodedPatch {
 
     ghost view = { λ p. (p.encoding.value.rev, p.encoding.value.patch) };
 
-    ghost invariant = { λ p. IsTextOf (string_bytes p.encoding.value.text)
+    ghost invariant = { λ p. IsTextOf p.encoding.value.text
         (patch_message (p.encoding.value.rev, p.encoding.value.patch))
         × (p.encoding.value.weight ≡ counted (ops_weight p.encoding.value.patch)) };
 }
 
 impl EncodedPatch {
-    ghost use Rattle.std.specs.Prelude.{◌≡◌, Some, is_some, IfOk, string_bytes};
+    ghost use Rattle.std.specs.Prelude.{◌≡◌, Some, is_some, IfOk};
     ghost use Rattle.relay_tree.specs.Budget.{paid};
     ghost use Rattle.relay_hub.specs.EncodedPatch.{counted, patch_message, message_text, ReadsBack};
     ghost use Rattle.relay_patch.specs.Weight.{ops_weight};
@@ -57,7 +58,7 @@ impl EncodedPatch {
     pub fn new(alloc: Global, rev: u64, patch: Patch) -> Result<EncodedPatch, AllocError>
         ensures { IfOk result (λ encoded_patch. encoded_patch ≡ (rev, patch)) }
     {
-        let text = patch_text(alloc, rev, &patch)?;
+        let text = ByteStr::from_string(patch_text(alloc, rev, &patch)?)?;
         let weight = weight_of(&patch);
         let encoding = Encoding {
             rev,
@@ -106,13 +107,12 @@ impl EncodedPatch {
         self.encoding.text.as_str()
     }
 
-    /// Returns a copy of the text of the message.
-    pub fn text(&self, alloc: Global) -> Result<String, AllocError>
-        ensures text { IfOk result (λ text. string_bytes text
-            ≡ message_text (patch_message self.now)) }
+    /// The text of the message, shared: no byte is copied. `AllocError`: it has too many owners.
+    pub fn text(&self) -> Result<ByteStr, AllocError>
+        ensures text { IfOk result (λ text. text ≡ message_text (patch_message self.now)) }
         ensures reads_back { ReadsBack (Some (patch_message self.now)) }
     {
-        String::from_str(alloc, self.encoding.text.as_str())
+        self.encoding.text.clone()
     }
 }
 

@@ -37,6 +37,7 @@ use crate::report::Report;
 use crate::room_sessions::RoomSessions;
 use crate::shed::{shed_budget, shed_rooms};
 use crate::will::{Will, leave_behind};
+use bytes::ByteStr;
 use indexmap::IndexMap;
 use relay_access::{Access, is_room_name};
 use relay_limits::MAX_COUNT;
@@ -318,7 +319,7 @@ impl Hub {
     /// assert!(rt; welcome.as_str() == r#"{"epoch":1,"kind":"welcome","rev":0,"session":1}"#);
     /// assert!(rt; hub.draw(alloc, session) == Ok(None));
     /// ```
-    pub fn draw(&mut self, alloc: Global, session: u64) -> Result<Option<String>, HubFault>
+    pub fn draw(&mut self, alloc: Global, session: u64) -> Result<Option<ByteStr>, HubFault>
         ensures step { StepIf self.old (Draw session) (drawing result) self.new }
         ensures stands { (b : HubConfig) (E : Log) → StandsFor b E self.old →
             StandsFor b (logged E (Draw session) (drawing result)) self.new }

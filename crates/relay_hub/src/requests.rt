@@ -31,6 +31,7 @@ use crate::snapshot_text::SnapshotText;
 use crate::text_size::TextSize;
 use crate::told::Told;
 use crate::update::Update;
+use bytes::ByteStr;
 use relay_history::ReservedRevision;
 use relay_patch::{Cause, Patch};
 use relay_proto::{Refusal, Reply, Request, Word};
@@ -414,7 +415,7 @@ pub fn draw(
     sessions: &mut [Session],
     number: u64,
     counts: &mut MessageCounts,
-) -> Result<Option<String>, HubFault>
+) -> Result<Option<ByteStr>, HubFault>
     requires there { IsSome (session_in sessions.old number) }
     requires rising { IsRising sessions.old }
     requires kept { IsSnapshotText room.now snapshot.old }

@@ -17,6 +17,7 @@ use crate::shed::shed_sessions;
 use crate::snapshot_text::SnapshotText;
 use crate::told::Told;
 use crate::{cost, requests};
+use bytes::ByteStr;
 use relay_limits::MAX_COUNT;
 use relay_patch::Patch;
 use relay_room::{Room, RoomFault};
@@ -306,7 +307,7 @@ impl RoomSessions {
         alloc: Global,
         number: u64,
         counts: &mut MessageCounts,
-    ) -> Result<Option<String>, HubFault>
+    ) -> Result<Option<ByteStr>, HubFault>
         requires { IsSome (session_in self.old.sessions number) }
         ensures step { DrawsIf number (drawing result) self.old self.new }
         ensures empty { result ≡ Ok None

@@ -7,6 +7,7 @@ use crate::shared_view::SharedView;
 use crate::snapshot_text::SnapshotText;
 use crate::update::Update;
 use crate::{cost, load};
+use bytes::ByteStr;
 use relay_access::Access;
 use relay_outbox::{Front, Outbox, OutboxFault};
 use relay_patch::Patch;
@@ -68,7 +69,7 @@ impl Model for Session {
 
 impl Session {
     ghost use Rattle.std.specs.Prelude.{◌≡◌, ◌<◌, ◌≤◌, ℕ, nat_le, length, option_map, Ok, None};
-    ghost use Rattle.std.specs.Prelude.{IfOk, OnOk, OnErr, IsSome, string_bytes};
+    ghost use Rattle.std.specs.Prelude.{IfOk, OnOk, OnErr, IsSome};
     ghost use Rattle.relay_outbox.specs.declared.outbox.TheConstants.{MAX_REPLIES};
     ghost use Rattle.relay_limits.specs.declared.TheConstants.{MAX_WAITING_PATCHES};
     ghost use Rattle.relay_room.specs.declared.catch_up.CatchUp.{CatchUp};
@@ -288,7 +289,7 @@ impl Session {
     }
 
     /// Removes and returns the text at the front of the outbox; `None` if nothing waits. The text
-    /// of a patch is copied, that of a reply is written, and a due snapshot is made from the
+    /// of a patch is shared, that of a reply is written, and a due snapshot is made from the
     /// present document ([`SnapshotText::draw`]). The message is counted. Out of memory leaves it
     /// in the outbox.
     pub fn draw(
@@ -297,10 +298,10 @@ impl Session {
         room: &Room,
         snapshot: &mut SnapshotText,
         counts: &mut MessageCounts,
-    ) -> Result<Option<String>, AllocError>
+    ) -> Result<Option<ByteStr>, AllocError>
         requires kept { IsSnapshotText room.now snapshot.old }
-        ensures text { IfOk result (λ text. option_map string_bytes text
-            ≡ option_map message_text (front_message room.now self.old)) }
+        ensures text { IfOk result (λ text.
+            text ≡ option_map message_text (front_message room.now self.old)) }
         ensures ok { OnOk result (self.new ≡ drawn self.old) }
         ensures err { OnErr result (self.new ≡ self.old) }
         ensures empty { result ≡ Ok None → waiting self.old ≡ 0 }
@@ -321,10 +322,10 @@ impl Session {
         room: &Room,
         snapshot: &mut SnapshotText,
         counts: &mut MessageCounts,
-    ) -> Result<Option<String>, AllocError>
+    ) -> Result<Option<ByteStr>, AllocError>
         requires kept { IsSnapshotText room.now snapshot.old }
-        ensures text { IfOk result (λ text. option_map string_bytes text
-            ≡ option_map message_text (front_message room.now self.now)) }
+        ensures text { IfOk result (λ text.
+            text ≡ option_map message_text (front_message room.now self.now)) }
         ensures empty { result ≡ Ok None → waiting self.now ≡ 0 }
         ensures reads_back { OnOk result (ReadsBack (front_message room.now self.now)) }
         ensures no_memory { OnErr result (0 < waiting self.now) }
@@ -332,8 +333,8 @@ impl Session {
     {
         match self.outbox.front() {
             Front::Nothing => Ok(None),
-            Front::Reply(reply) => Ok(Some(reply.get().text(alloc)?)),
-            Front::Patch(encoded_patch) => Ok(Some(encoded_patch.text(alloc)?)),
+            Front::Reply(reply) => Ok(Some(ByteStr::from_string(reply.get().text(alloc)?)?)),
+            Front::Patch(encoded_patch) => Ok(Some(encoded_patch.text()?)),
             Front::Snapshot => {
                 let Some(view) = &self.view else {
                     unreachable!()
@@ -345,7 +346,7 @@ impl Session {
 
     /// Counts the message at the front of the outbox, which has this text, and what it cost, unless
     /// it is a snapshot.
-    fn count_front(&self, text: Option<&String>, counts: &mut MessageCounts) {
+    fn count_front(&self, text: Option<&ByteStr>, counts: &mut MessageCounts) {
         let Some(text) = text else {
             return;
         };

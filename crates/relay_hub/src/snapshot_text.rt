@@ -1,6 +1,6 @@
 //! The text of a room's present snapshot. It is written for the first sessions that are due it and
-//! watch the same view, and copied for the others, which costs far less.
-ghost use Rattle.std.specs.Prelude.{◌≡◌, ◌⊎◌, Some, None, IfOk, IfSome, string_bytes};
+//! watch the same view, and shared with the others, which copies nothing.
+ghost use Rattle.std.specs.Prelude.{◌≡◌, ◌⊎◌, Some, None, IfOk, IfSome};
 ghost use Rattle.relay_hub.specs.EncodedPatch.{IsTextOf};
 ghost use Rattle.relay_hub.specs.Session.{snapshot_of};
 ghost use Rattle.relay_hub.specs.SnapshotText.{IsSnapshotText, kept_bytes, kept_over};
@@ -8,6 +8,7 @@ ghost use Rattle.relay_hub.specs.SnapshotText.{IsSnapshotText, kept_bytes, kept_
 use crate::cost;
 use crate::message_counts::MessageCounts;
 use crate::shared_view::SharedView;
+use bytes::ByteStr;
 use relay_proto::{Refusal, Request, shown_text};
 use relay_room::Room;
 use std::alloc::{AllocError, Global};
@@ -21,7 +22,7 @@ pub(crate) const MAX_KEPT_BYTES: u64 = 4 * 1_024 * 1_024;
 #[derive(Drop)]
 struct KeptText {
     view: SharedView,
-    text: String,
+    text: ByteStr,
 }
 
 /// The text of a room's present snapshot for one view, if it is kept. A text is kept only once a
@@ -35,7 +36,7 @@ pub struct SnapshotText {
 }
 
 impl Model for SnapshotText {
-    ghost use Rattle.std.specs.Prelude.{ℕ, List, Option, option_map, string_bytes};
+    ghost use Rattle.std.specs.Prelude.{ℕ, List, Option, option_map};
     ghost use Rattle.std.specs.Coded.{coded×, coded_ℕ, coded_list, coded_option};
     ghost use Rattle.relay_view.specs.View.{View};
     ghost use Rattle.relay_view.specs.contracts.slot.Slot as slot;
@@ -44,7 +45,7 @@ impl Model for SnapshotText {
 
     ghost coded = { coded_option (coded× (coded_list slot.the_row.coded) (coded_list coded_ℕ)) };
 
-    ghost view = { λ s. option_map (λ kept. (kept.view, string_bytes kept.text)) s.kept };
+    ghost view = { λ s. option_map (λ kept. (kept.view, kept.text)) s.kept };
 }
 
 impl SnapshotText {
@@ -78,50 +79,49 @@ impl SnapshotText {
         }
     }
 
-    /// Returns the text of the present snapshot of the room for the view: a copy of the one that is
-    /// kept, or a new one. Counts what that cost.
+    /// Returns the text of the present snapshot of the room for the view: the one that is kept,
+    /// shared, or a new one. Counts what that cost.
     pub fn draw(
         &mut self,
         alloc: Global,
         room: &Room,
         view: &SharedView,
         counts: &mut MessageCounts,
-    ) -> Result<String, AllocError>
+    ) -> Result<ByteStr, AllocError>
         requires kept { IsSnapshotText room.now self.old }
-        ensures text { IfOk result (λ text.
-            IsTextOf (string_bytes text) (snapshot_of room.now view.now)) }
+        ensures text { IfOk result (λ text. IsTextOf text (snapshot_of room.now view.now)) }
         ensures kept { IsSnapshotText room.now self.new }
     {
         if let Some(text) = self.kept_for(view) {
             counts.count_cost(cost::drawing(text.len() as u64));
-            return String::from_str(alloc, text);
+            return text.clone();
         }
         let text = write(alloc, room, view, counts)?;
-        self.note(alloc, view, text.as_str());
+        self.note(view, &text);
         Ok(text)
     }
 
     /// The kept text, if it is of that view. Compares the views token by token.
-    fn kept_for(&self, view: &SharedView) -> Option<&str>
+    fn kept_for(&self, view: &SharedView) -> Option<&ByteStr>
         ensures { IfSome result (λ text. self.now ≡ Some (view.now, text.now)) }
     {
         let kept = self.kept.as_ref()?;
         if kept.view.get().same(view.get()) {
-            Some(kept.text.as_str())
+            Some(&kept.text)
         } else {
             None
         }
     }
 
-    /// Notes that this text was written for the view. Keeps a copy if the one that was written
-    /// before was for an equal view, if it is not too long, and if there is memory for it.
-    fn note(&mut self, alloc: Global, view: &SharedView, text: &str)
+    /// Notes that this text was written for the view. Keeps it if the one that was written before
+    /// was for an equal view, and if it is not too long.
+    fn note(&mut self, view: &SharedView, text: &ByteStr)
         ensures { (self.new ≡ self.old) ⊎ (self.new ≡ Some (view.now, text.now)) }
     {
         if !self.was_written_for(view) {
             self.written = view.share().ok();
         } else if text.len() as u64 <= MAX_KEPT_BYTES {
-            if let Ok(kept) = KeptText::new(alloc, view, text) {
+            if let Ok(kept) = KeptText::new(view, text) {
                 self.kept = Some(kept);
             }
         }
@@ -137,14 +137,14 @@ impl SnapshotText {
 }
 
 impl KeptText {
-    /// A copy of the text, for the view.
-    fn new(alloc: Global, view: &SharedView, text: &str) -> Result<KeptText, AllocError>
+    /// The text, shared, for the view.
+    fn new(view: &SharedView, text: &ByteStr) -> Result<KeptText, AllocError>
         ensures view { IfOk result (λ kept. kept.view ≡ view.now) }
-        ensures text { IfOk result (λ kept. string_bytes kept.text ≡ text.now) }
+        ensures text { IfOk result (λ kept. kept.text ≡ text.now) }
     {
         Ok(KeptText {
             view: view.share()?,
-            text: String::from_str(alloc, text)?,
+            text: text.clone()?,
         })
     }
 }
@@ -155,10 +155,11 @@ fn write(
     room: &Room,
     view: &SharedView,
     counts: &mut MessageCounts,
-) -> Result<String, AllocError>
-    ensures { IfOk result (λ text. IsTextOf (string_bytes text) (snapshot_of room.now view.now)) }
+) -> Result<ByteStr, AllocError>
+    ensures { IfOk result (λ text. IsTextOf text (snapshot_of room.now view.now)) }
 {
-    let text = shown_text(alloc, room.revision(), view.get(), room.document())?;
+    let written = shown_text(alloc, room.revision(), view.get(), room.document())?;
+    let text = ByteStr::from_string(written)?;
     counts.count_cost(cost::showing(text.as_str()));
     Ok(text)
 }

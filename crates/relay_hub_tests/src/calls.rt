@@ -2,6 +2,7 @@
 //! room.
 use crate::shared::{Came, at_revision, number, owned, repeated, words};
 use crate::weights::WATCHING;
+use bytes::ByteStr;
 use relay_access::Access;
 use relay_hub::{Hub, HubConfig, HubFault, MessageCounts, OpenFault};
 use relay_test_stream::{Subject, cut, play};
@@ -136,9 +137,9 @@ fn set(config: &mut HubConfig, name: &str, value: u64) -> Option<()> {
 }
 
 /// The result of a draw, as text: the text itself, if there was one.
-fn drawn(alloc: Global, text: Result<Option<String>, HubFault>) -> Came {
+fn drawn(alloc: Global, text: Result<Option<ByteStr>, HubFault>) -> Came {
     match text {
-        Ok(Some(text)) => Some(text),
+        Ok(Some(text)) => owned(alloc, text.as_str()),
         Ok(None) => owned(alloc, "nothing"),
         Err(fault) => words(alloc, fault),
     }

@@ -1,11 +1,10 @@
 -- The texts that a link draws and those that it frames go on together.
 use Rattle.std.proofs.Common.{◌≡◌, ℕ, Bool, true, false, if◌then◌else◌, Result, Ok, Err, IfOk, OnOk}
-use Rattle.std.proofs.Common.{OnErr, arith, List, [], ◌∷◌, ◌++◌, Option, Some, None, option_map}
-use Rattle.std.proofs.Common.{String, Global, string_bytes, IsUtf8, refl, sym, subst, ap, ◌∙◌}
+use Rattle.std.proofs.Common.{OnErr, arith, List, [], ◌∷◌, ◌++◌, Option, Some}
+use Rattle.std.proofs.Common.{IsUtf8, refl, sym, subst, ap, ◌∙◌}
 use Rattle.std.proofs.Common.{append_assoc, append-nil}
 use Rattle.std.proofs.ByRecursion.{All-append}
 use Rattle.std.proofs.KnownBytes.{Appends-trans, Appends-nil}
-use Rattle.std.proofs.lemmas.Str.{IsUtf8-string_bytes}
 use Rattle.std.specs.List.{AllByRecursion}
 use Rattle.websocket.specs.declared.protocol.config.Role.TheVariants.{Server}
 use Rattle.tungstenite.specs.Socket.{Socket}
@@ -13,8 +12,8 @@ use Rattle.relay_hub.specs.State.{State as Hub}
 use Rattle.relay_hub.specs.Step.{Step}
 use Rattle.relay_hub.specs.declared.event.Answer.{Answer}
 use Rattle.relay_hub.specs.declared.event.Event.{Event}
-use Rattle.relay_link.specs.Follows.{Point, at, IsOwn, no_opening, session_after, Follows, stays}
-use Rattle.relay_link.specs.Follows.{makes, given, drawn_by, drawn}
+use Rattle.relay_link.specs.Follows.{Point, at, IsOwn, no_opening, session_after, stays}
+use Rattle.relay_link.specs.Follows.{makes, drawn_by, drawn}
 use Rattle.relay_link.specs.Frames.{text_frame, text_frames, framed, Frames}
 use Rattle.relay_link.specs.Stage.{stage_of, is_over, IsForward}
 use Rattle.relay_link.specs.Hears.{allowed_reads, Passes, HearsUnlessBlocked, SendsAndPassesOn}
@@ -40,12 +39,6 @@ pub drew_same : (old new : Hub) (session : Option ℕ) (before after : List Even
     → after ≡ before → Drew [] (at old session before) (at new session after)
 drew_same old new session before after h m =
     rw (h, m) (record { follows = stays; texts_are = refl; utf8 = tt })
-
--- the text of a draw
-pub given_utf8 : (text : Option (String Global))
-    → AllByRecursion IsUtf8 (given (option_map string_bytes text))
-given_utf8 None = tt
-given_utf8 (Some text) = (IsUtf8-string_bytes text, tt)
 
 -- one event was made
 pub drew_one : (old new : Hub) (session : Option ℕ) (before after : List Event) (event : Event)

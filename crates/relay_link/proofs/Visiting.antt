@@ -1,9 +1,8 @@
 -- The parts of a visit go on together.
-use Rattle.std.proofs.Common.{◌≡◌, ◌⊎◌, inl, inr, ◌≤◌, ◌<◌, ◌+◌, ℕ, true, false, List, [], ◌∷◌}
-use Rattle.std.proofs.Common.{◌++◌, map, length, Option, Some, None, option_to_list, is_some}
-use Rattle.std.proofs.Common.{Result, Ok, Err, OnOk, String, Global, string_bytes, refl, sym, subst}
+use Rattle.std.proofs.Common.{◌≡◌, inl, inr, ◌≤◌, ◌+◌, ℕ, true, false, List, [], ◌∷◌}
+use Rattle.std.proofs.Common.{◌++◌, length, Option, Some, None, option_to_list, is_some}
+use Rattle.std.proofs.Common.{Result, Ok, Err, refl, sym, subst}
 use Rattle.std.proofs.Common.{ap, ◌∙◌, append-nil, arith}
-use Rattle.std.proofs.lemmas.List.{map-append}
 use Rattle.std.proofs.lemmas.List.Sums.{sum_by-append}
 use Rattle.relay_hub.specs.Call.{StepIf, opening}
 use Rattle.relay_hub.specs.State.{State as Hub}
@@ -102,13 +101,10 @@ opens_then texts p q r opens drew =
 -- ---- the texts that were drawn
 
 -- one text more
-pub drew_text : (before after : List (String Global)) (text : String Global) (p q r : Point)
-    → after ≡ before ++ text ∷ [] → Drew (map string_bytes before) p q
-    → Drew (string_bytes text ∷ []) q r → Drew (map string_bytes after) p r
+pub drew_text : (before after : List (List ℕ)) (text : List ℕ) (p q r : Point)
+    → after ≡ before ++ text ∷ [] → Drew before p q → Drew (text ∷ []) q r → Drew after p r
 drew_text before after text p q r m f g =
-    subst (λ texts. Drew texts p r) (sym (ap (map string_bytes) m
-    ∙ map-append string_bytes before (text ∷ [])))
-    (drew_then (map string_bytes before) (string_bytes text ∷ []) p q r f g)
+    subst (λ texts. Drew texts p r) (sym m) (drew_then before (text ∷ []) p q r f g)
 
 -- no text more
 pub drew_on : (texts : List (List ℕ)) (p q r : Point) → Drew texts p q → Drew [] q r
@@ -126,7 +122,7 @@ if_answered (Unheard o) P Q so holds = tt
 if_answered (Refused f) P Q so holds = tt
 
 -- other events around them draw no less
-pub drew_within : (before first mid after : List Event) (texts : List (String Global))
+pub drew_within : (before first mid after : List Event) (texts : List (List ℕ))
     → draws before ≤ draws first → draws mid ≤ draws after → DrewAll first mid texts
     → DrewAll before after texts
 drew_within before first mid after texts earlier later drew = elim drew [
@@ -135,7 +131,7 @@ drew_within before first mid after texts earlier later drew = elim drew [
 ]
 
 -- a text that is passed to the hub draws nothing
-pub drew_received : (before mid after : List Event) (texts : List (String Global)) (s : ℕ)
+pub drew_received : (before mid after : List Event) (texts : List (List ℕ)) (s : ℕ)
     (text : List ℕ) → mid ≡ before ++ Receive s text ∷ [] → DrewAll mid after texts
     → DrewAll before after texts
 drew_received before mid after texts s text m =
@@ -143,7 +139,7 @@ drew_received before mid after texts s text m =
     (omega arith)
 
 pub drew_all_within : (outcome : VisitOutcome) (before first mid after : List Event)
-    (texts : List (String Global)) → draws before ≤ draws first → draws mid ≤ draws after
+    (texts : List (List ℕ)) → draws before ≤ draws first → draws mid ≤ draws after
     → IfAnswered outcome (DrewAll first mid texts) → IfAnswered outcome (DrewAll before after texts)
 drew_all_within outcome before first mid after texts earlier later =
     if_answered outcome (DrewAll first mid texts) (DrewAll before after texts)
@@ -167,19 +163,19 @@ module _ (room text : List ℕ) (access : Access) (hub next : Hub) (visit : Visi
 
   -- a session was opened, and stayed
   pub visits_stayed : (mid : Hub) (o : Opening) (outcome : VisitOutcome)
-      (texts : List (String Global)) (first : List Event)
+      (texts : List (List ℕ)) (first : List Event)
       → visit.outcome ≡ outcome → visit.texts.items ≡ texts
       → Opens (is_room room access) (option_to_list (opening (Ok o))) [] (at hub None [])
       (at mid (Some o.session) first)
       → Passes [] first [] → Adds 1 0 0 [] first → opening_of outcome ≡ Ok o
-      → Drew (map string_bytes texts) (at mid (Some o.session) first) (at next None events)
+      → Drew texts (at mid (Some o.session) first) (at next None events)
       → Passes first events (heard_in outcome text)
       → IfAnswered outcome (DrewAll first events texts) → length texts ≤ MAX_TEXTS
       → Adds (MAX_TEXTS + 2) 1 MAX_TEXTS first events → Visits room access text hub next visit
   visits_stayed mid o outcome texts first is_outcome is_texts opens quiet begun same drew passes
       drew_all few adds = record {
         opens = rw (is_outcome, is_texts, is_events, same)
-            (opens_then (map string_bytes texts) _ _ _ opens drew);
+            (opens_then texts _ _ _ opens drew);
         heard = rw (is_outcome, is_events) (passes ∙ ap (λ l. l ++ heard_in outcome text) quiet);
         drew_all = rw (is_outcome, is_texts, is_events)
             (drew_all_within outcome [] first events events texts (omega arith) (omega arith)

@@ -1,7 +1,6 @@
 -- The contract of a visit: a session that opens, says one text, draws what waits and closes.
 use Rattle.std.specs.Prelude.{◌≡◌, ◌+◌, ◌<◌, ◌≤◌, ◌⊎◌, ⊤, ℕ, Bool, true, false, List, [], ◌∷◌, ◌++◌}
-use Rattle.std.specs.Prelude.{map, length, Option, None, Some, option_to_list, Result, Ok, Err}
-use Rattle.std.specs.Prelude.{string_bytes}
+use Rattle.std.specs.Prelude.{length, Option, None, Some, option_to_list, Result, Ok, Err}
 use Rattle.relay_hub.specs.Call.{opening}
 use Rattle.relay_hub.specs.State.{State as Hub}
 use Rattle.relay_hub.specs.declared.event.Answer.{Answer}
@@ -79,7 +78,7 @@ pub record Visits (room : List ℕ) (access : Access) (text : List ℕ) (hub nex
   -- opened in the room with that access, and was closed: none is left. Its opening had the answer
   -- that the visit reports, and its draws gave the texts of the visit.
   pub opens : Opens (is_room room access) (option_to_list (opening (opening_of visit.outcome)))
-      (map string_bytes visit.texts.items) (at hub None []) (at next None visit.events.items)
+      visit.texts.items (at hub None []) (at next None visit.events.items)
   -- the hub heard the text once, or not at all if the visit says so, and no other
   pub heard : received visit.events.items ≡ heard_in visit.outcome text
   pub drew_all : IfAnswered visit.outcome (DrewAll [] visit.events.items visit.texts.items)

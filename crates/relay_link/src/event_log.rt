@@ -4,6 +4,7 @@ use relay_hub::{Event, OpenFault};
 use std::alloc::{AllocError, Global};
 use std::cell::Cell;
 use std::marker::Model;
+use tungstenite::Utf8Bytes;
 
 /// The maximum number of events of a turn.
 pub(crate) const MAX_EVENTS: usize = 34;
@@ -35,8 +36,11 @@ impl Model for EventLog {
 }
 
 impl EventLog {
-    ghost use Rattle.std.specs.Prelude.{◌≡◌, ◌<◌, [], ◌∷◌, ◌++◌, length, IfOk};
+    ghost use Rattle.std.specs.Prelude.{◌≡◌, ◌<◌, [], ◌∷◌, ◌++◌, length, option_copied, IfOk};
+    ghost use Rattle.std.specs.Prelude.{IsUtf8};
+    ghost use Rattle.std.specs.List.{AllByRecursion};
     ghost use Rattle.relay_hub.specs.declared.event.Event.TheVariants.{Draw};
+    ghost use Rattle.relay_link.specs.Follows.{given};
 
     /// An empty log, with capacity for the events of a turn.
     pub(crate) fn new(alloc: Global) -> Result<EventLog, AllocError>
@@ -60,12 +64,13 @@ impl EventLog {
     }
 
     /// Appends a draw, and counts the text that was drawn. Allocates nothing.
-    pub(crate) fn note_draw(&mut self, session: u64, text: Option<&String>)
+    pub(crate) fn note_draw(&mut self, session: u64, text: Option<&Utf8Bytes>)
         requires { length self.old < MAX_EVENTS }
-        ensures { self.new ≡ self.old ++ Draw session ∷ [] }
+        ensures event { self.new ≡ self.old ++ Draw session ∷ [] }
+        ensures utf8 { AllByRecursion IsUtf8 (given (option_copied text.entry)) }
     {
         if let Some(text) = text {
-            self.drawn = self.drawn.saturating_add(text.len() as u64);
+            self.drawn = self.drawn.saturating_add(text.as_bytes().len() as u64);
         }
         self.note(Event::Draw { session });
     }

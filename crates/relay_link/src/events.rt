@@ -1,6 +1,6 @@
 //! The hub calls that a link makes, each recorded as an event.
 ghost use Rattle.std.specs.Prelude.{◌≡◌, ◌+◌, ◌<◌, [], ◌∷◌, ◌++◌, length, is_some, Some, None};
-ghost use Rattle.std.specs.Prelude.{option_map, option_to_list, string_bytes, IfOk, OnOk, OnErr};
+ghost use Rattle.std.specs.Prelude.{option_to_list, string_bytes, IfOk, OnOk, OnErr};
 ghost use Rattle.relay_hub.specs.Call.{opening};
 ghost use Rattle.relay_link.specs.Follows.{Follows, no_opening, is_room, at, given, closing_of};
 ghost use Rattle.relay_link.specs.Hears.{Passes};
@@ -15,6 +15,7 @@ use crate::event_log::EventLog;
 use relay_access::Access;
 use relay_hub::{Event, Hub, HubFault, NoSession, OpenFault, Opening, Text};
 use std::alloc::{AllocError, Global};
+use tungstenite::Utf8Bytes;
 
 /// Opens the link's session in a room, with the access that its head asks for. `None` if the hub
 /// refuses it or is out of memory; only the refusal is recorded as an event.
@@ -111,12 +112,12 @@ pub(crate) fn draw(
     hub: &mut Hub,
     session: u64,
     events: &mut EventLog,
-) -> Result<Option<String>, AllocError>
+) -> Result<Option<Utf8Bytes>, AllocError>
     requires { length events.old < MAX_EVENTS }
     ensures follows { Follows no_opening (at hub.old (Some session) events.old)
         (at hub.new (Some session) events.new) }
     ensures drew { IfOk result (λ text.
-        Drew (given (option_map string_bytes text)) (at hub.old (Some session) events.old)
+        Drew (given text) (at hub.old (Some session) events.old)
         (at hub.new (Some session) events.new)) }
     ensures drew_none { OnErr result (Drew [] (at hub.old (Some session) events.old)
         (at hub.new (Some session) events.new)) }

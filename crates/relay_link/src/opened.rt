@@ -27,7 +27,7 @@ use crate::turn_phase::TurnPhase;
 use relay_hub::{Hub, Text};
 use std::alloc::Global;
 use std::io::{Read, Write};
-use tungstenite::{CloseCode, Message, Utf8Bytes};
+use tungstenite::{CloseCode, Message};
 
 /// The end of an open link.
 #[derive(Clone, Copy)]
@@ -303,16 +303,13 @@ fn draw_messages<S: Read + Write + Drop>(
     ensures not_silent { IfErr result IsNotSilent }
 {
     for _ in 0..draws {
-        let text = match events::draw(alloc, hub, session, events) {
-            Ok(Some(text)) => text,
+        let words = match events::draw(alloc, hub, session, events) {
+            Ok(Some(words)) => words,
             Ok(None) => return Ok(DrawStop::Empty),
             Err(_) => {
                 socket.get_ref().request_turn();
                 return Ok(DrawStop::Memory);
             }
-        };
-        let Ok(words) = Utf8Bytes::from_string(text) else {
-            return Err(EndCause::Memory);
         };
         if !write(socket, words)? {
             return Ok(DrawStop::Pending);

@@ -2,7 +2,7 @@
 //!
 //! It is for a caller without a socket, who asks one thing. Its events are a session's own, like
 //! those of a link's turns, so that what a log says of sessions holds of visits too.
-ghost use Rattle.std.specs.Prelude.{◌≡◌, ◌+◌, ◌≤◌, [], Some, None, Ok, map, length, IfOk, OnOk};
+ghost use Rattle.std.specs.Prelude.{◌≡◌, ◌+◌, ◌≤◌, [], Some, None, Ok, length, IfOk, OnOk};
 ghost use Rattle.std.specs.Prelude.{OnErr, string_bytes, vec_capacity};
 ghost use Rattle.relay_link.specs.Adds.{Adds};
 ghost use Rattle.relay_link.specs.Follows.{at};
@@ -38,7 +38,7 @@ pub struct Visit {
     /// The hub events that the visit made, in order: at most 6.
     pub events: Vec<Event>,
     /// The texts that it drew, in order: at most 3.
-    pub texts: Vec<String>,
+    pub texts: Vec<Text>,
     pub outcome: VisitOutcome,
     /// The index of its room in the hub ([`Hub::room_of`]), if it entered one.
     pub room_index: Option<usize>,
@@ -97,13 +97,13 @@ fn stay(
     hub: &mut Hub,
     opening: Opening,
     text: Text,
-    texts: &mut Vec<String>,
+    texts: &mut Vec<Text>,
     events: &mut EventLog,
 ) -> VisitOutcome
     requires none { texts.old.items ≡ [] }
     requires capacity { MAX_TEXTS ≤ vec_capacity texts.old }
     requires space { length events.old + MAX_TEXTS + 2 ≤ MAX_EVENTS }
-    ensures drew { Drew (map string_bytes texts.new.items)
+    ensures drew { Drew texts.new.items
         (at hub.old (Some opening.session) events.old) (at hub.new None events.new) }
     ensures opening { opening_of result ≡ Ok opening }
     ensures passes { Passes events.old events.new (heard_in result text) }
@@ -124,13 +124,13 @@ fn say(
     hub: &mut Hub,
     opening: Opening,
     text: Text,
-    texts: &mut Vec<String>,
+    texts: &mut Vec<Text>,
     events: &mut EventLog,
 ) -> VisitOutcome
     requires none { texts.old.items ≡ [] }
     requires capacity { MAX_TEXTS ≤ vec_capacity texts.old }
     requires space { length events.old + MAX_TEXTS + 1 ≤ MAX_EVENTS }
-    ensures drew { Drew (map string_bytes texts.new.items)
+    ensures drew { Drew texts.new.items
         (at hub.old (Some opening.session) events.old)
         (at hub.new (Some opening.session) events.new) }
     ensures opening { opening_of result ≡ Ok opening }
@@ -154,13 +154,13 @@ fn draw_texts(
     alloc: Global,
     hub: &mut Hub,
     session: u64,
-    texts: &mut Vec<String>,
+    texts: &mut Vec<Text>,
     events: &mut EventLog,
 ) -> Result<(), AllocError>
     requires none { texts.old.items ≡ [] }
     requires capacity { MAX_TEXTS ≤ vec_capacity texts.old }
     requires space { length events.old + MAX_TEXTS ≤ MAX_EVENTS }
-    ensures drew { Drew (map string_bytes texts.new.items)
+    ensures drew { Drew texts.new.items
         (at hub.old (Some session) events.old) (at hub.new (Some session) events.new) }
     ensures passes { Passes events.old events.new [] }
     ensures drew_all { OnOk result (DrewAll events.old events.new texts.new.items) }
@@ -171,7 +171,7 @@ fn draw_texts(
         let Some(text) = events::draw(alloc, hub, session, events)? else {
             return Ok(());
         };
-        texts.push_reserved(text);
+        texts.push_reserved(Text::shared(text));
     }
     Ok(())
 }

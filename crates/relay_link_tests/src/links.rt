@@ -91,7 +91,7 @@ impl<'a> Links<'a> {
     /// Opens session 2, and draws its welcome.
     fn join(&mut self, alloc: Global) -> Option<()> {
         self.hub.open(alloc, "a", Access::ReadWrite).ok()?;
-        drop(self.drawn(alloc)?);
+        drop(self.hub.draw(alloc, 2).ok()??);
         Some(())
     }
 
@@ -121,17 +121,11 @@ impl<'a> Links<'a> {
     fn beside(&mut self, alloc: Global, act: &str) -> Option<String> {
         let mut told = self.link.act(alloc, &mut self.hub, act)?;
         drop(self.hub.receive(alloc, 2, EDIT).ok()?);
-        let is_done = self
-            .drawn(alloc)?
-            .contains(r#"{"id":2,"kind":"done","rev":"#);
+        let reply = self.hub.draw(alloc, 2).ok()??;
+        let is_done = reply.as_str().contains(r#"{"id":2,"kind":"done","rev":"#);
         let few_wait = self.hub.waiting(1)? <= 4 + MAX_REPLIES;
         write!(told, ", done: {is_done}, few wait: {few_wait}").ok()?;
         Some(told)
-    }
-
-    /// Draws the next text of session 2.
-    fn drawn(&mut self, alloc: Global) -> Option<String> {
-        self.hub.draw(alloc, 2).ok()?
     }
 }
 

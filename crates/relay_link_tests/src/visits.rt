@@ -88,7 +88,7 @@ impl<R: AllocGlobal> Subject<R> for Visitor {
             "visit" => self.visit(alloc, rest, Access::ReadWrite),
             "visit-read-only" => self.visit(alloc, rest, Access::ReadOnly),
             "told" => format!(in alloc; "{:?}", self.hub.told().sessions.as_slice()).ok(),
-            "draw" => self.hub.draw(alloc, rest.parse::<u64>().ok()?).ok()?,
+            "draw" => self.draw(alloc, rest.parse::<u64>().ok()?),
             "room" => self.room(alloc, rest),
             "wills" => format!(in alloc; "{}", self.hub.has_wills()).ok(),
             _ => None,
@@ -97,6 +97,12 @@ impl<R: AllocGlobal> Subject<R> for Visitor {
 }
 
 impl Visitor {
+    /// The next text of a session.
+    fn draw(&mut self, alloc: Global, session: u64) -> Option<String> {
+        let text = self.hub.draw(alloc, session).ok()??;
+        text.as_str().to_owned(alloc).ok()
+    }
+
     fn of(alloc: Global, rooms: u64) -> Option<Visitor> {
         Some(Visitor {
             hub: hub_with_rooms(alloc, rooms)?,
@@ -164,7 +170,7 @@ fn told(alloc: Global, visit: &Visit) -> Result<String, AllocError> {
         VisitOutcome::Answered(opening) => write!(told, "Answered at {}", opening.rev)?,
     }
     for text in visit.texts.iter() {
-        write!(told, " > {text}")?;
+        write!(told, " > {}", text.as_str())?;
     }
     Ok(told)
 }

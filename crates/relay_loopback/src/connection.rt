@@ -56,8 +56,7 @@ impl<S: Read + Write + Drop> Connection<S> {
         let Some(text) = self.drawn(alloc, hub) else {
             return Ok(Outcome::Stuck);
         };
-        let text = Text::of(String::from_str(alloc, text.as_str())?);
-        Ok(Outcome::Answered(Answer::Drawn(Some(text))))
+        Ok(Outcome::Answered(Answer::Drawn(Some(Text::shared(text)))))
     }
 
     /// The text that the client receives after the link made a draw.

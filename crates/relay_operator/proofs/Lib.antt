@@ -1,6 +1,6 @@
 pub mod Answering
 pub mod Asking
-pub mod Events
+pub mod Giving
 pub mod Holding
 pub mod Moving
 pub mod Responding

@@ -1,5 +1,5 @@
 -- The responses to requests for a room, with and without a visit.
-use Rattle.std.proofs.Common.{◌≡◌, ◌↔◌, ℕ, true, List, map, string_bytes, String, Global, Option}
+use Rattle.std.proofs.Common.{◌≡◌, ◌↔◌, ℕ, true, List, string_bytes, String, Global, Option}
 use Rattle.std.proofs.Common.{Some, None, IsSome, option_map, Result, Ok, Err, IfOk, sym, ap, subst}
 use Rattle.std.proofs.Common.{◌∙◌}
 use Rattle.relay_admin.specs.Asking.{IsJson}
@@ -25,7 +25,7 @@ use Rattle.relay_operator.specs.declared.room_request.RoomRequest.{RoomRequest}
 -- a text of the response by a visit
 pub is_visit_response : {E : Type 0} (hub : State) (request : RoomRequest) (visit : Visit)
     (reply : Response) (made : Result (String Global) E)
-    → AnswersVisit hub request visit.outcome (map string_bytes visit.texts.items) reply
+    → AnswersVisit hub request visit.outcome visit.texts.items reply
     → IfOk made (λ text. string_bytes text ≡ response_text reply)
     → IfOk made (λ text. IsVisitResponse hub request visit (string_bytes text))
 is_visit_response hub request visit reply (Ok text) answers is = record {

@@ -1,7 +1,7 @@
 -- A connection to the admin port: what it received, what it asks of a room, and how much of its
 -- response was sent.
 use Rattle.std.specs.Prelude.{◌≡◌, ◌≢◌, ⊤, ℕ, ◌+◌, ◌-◌, ◌^◌, min, nat_lt, if◌then◌else◌, List, []}
-use Rattle.std.specs.Prelude.{◌++◌, length, take, drop, Option, Some, None, string_bytes}
+use Rattle.std.specs.Prelude.{Bool, ◌++◌, length, take, drop, Option, Some, None, string_bytes}
 use Rattle.std.specs.Io.KnownBytes.{Appends, Consumes}
 use Rattle.std.specs.declared.io.ErrorKind.{ErrorKind}
 use Rattle.std.specs.declared.io.ErrorKind.TheVariants.{WouldBlock, Interrupted}
@@ -15,6 +15,8 @@ use Rattle.relay_admin.specs.declared.room.edit.EditRequest.{EditRequest}
 use Rattle.relay_operator.specs.declared.admin_connection.AdminConnection.{AdminConnection}
 use Rattle.relay_operator.specs.declared.admin_connection.Moved.{Moved}
 use Rattle.relay_operator.specs.declared.admin_connection.Moved.TheVariants as moved
+use Rattle.relay_operator.specs.RoomRequest.{is_some_of}
+use Rattle.relay_operator.specs.declared.room_request.Kind.{Kind}
 use Rattle.relay_operator.specs.declared.room_request.RoomRequest.{RoomRequest}
 use Rattle.relay_operator.specs.declared.room_request.RoomRequest.TheVariants.{Edit}
 
@@ -83,6 +85,10 @@ module _ {S : Type 0} where
   -- what it asks of a room, once all of that was received
   abbrev pub asked_by : AdminConnection S → Option RoomRequest
   asked_by c = whole_by c.asked c.received.items
+
+  -- whether it asks for something of a kind, of which all was received
+  abbrev pub asks_for : Kind → AdminConnection S → Bool
+  asks_for kind c = is_some_of kind (asked_by c)
 
   -- the part of its response that is still to be sent
   abbrev pub unsent : AdminConnection S → List ℕ

@@ -1,5 +1,4 @@
 pub mod Counters
-pub mod Readiness
 pub mod Connection
 pub mod RoomRequest
 pub mod Visiting
@@ -8,3 +7,4 @@ pub mod Numbers
 pub mod Rows
 pub mod Response
 pub mod Port
+pub mod Answering

@@ -1,5 +1,5 @@
 -- The answer to a request for a room: by the visit that it comes to, or without one.
-use Rattle.std.specs.Prelude.{◌≡◌, ◌≢◌, ℕ, ◌+◌, Bool, true, false, List, [], map, slice_get, Option}
+use Rattle.std.specs.Prelude.{◌≡◌, ◌≢◌, ℕ, ◌+◌, Bool, true, false, List, [], slice_get, Option}
 use Rattle.std.specs.Prelude.{Some, None, string_bytes, Result, Ok, Err}
 use Rattle.json.specs.Lex.{tokens}
 use Rattle.relay_admin.specs.Asking.{IsJson, watch_tokens, edit_tokens, snapshot_text}
@@ -174,5 +174,5 @@ AnswersVisit hub request (visit.Answered o) texts reply =
 pub record IsVisitResponse (hub : State) (request : RoomRequest) (made : Visit) (text : List ℕ)
     : Type 0 where
   pub reply : Response
-  pub answers : AnswersVisit hub request made.outcome (map string_bytes made.texts.items) reply
+  pub answers : AnswersVisit hub request made.outcome made.texts.items reply
   pub is : text ≡ response_text reply

@@ -6,9 +6,9 @@ ghost use Rattle.std.specs.IoError.{error_kind};
 ghost use Rattle.relay_operator.specs.Connection.{AnswersIfWhole, IsFresh, Receives, SameButStream};
 ghost use Rattle.relay_operator.specs.Connection.{Sends, Tells, answered, asked_by, asking};
 ghost use Rattle.relay_operator.specs.Connection.{body_of, missing_by, missing_of, moved_after};
-ghost use Rattle.relay_operator.specs.Connection.{unsent};
+ghost use Rattle.relay_operator.specs.Connection.{asks_for, unsent};
 
-use crate::room_request::RoomRequest;
+use crate::room_request::{Kind, RoomRequest};
 use relay_admin::{Ask, EditRequest, MAX_HEAD, ask};
 use std::alloc::{AllocError, Global};
 use std::io::{Error, ErrorKind, Read, Write};
@@ -117,6 +117,16 @@ impl<S: Read + Write + OpenStream + Drop> AdminConnection<S> {
         match asked {
             RoomRequest::Edit(edit) if self.missing(edit) > 0 => None,
             _ => Some(asked),
+        }
+    }
+
+    /// True if it asks for something of that kind, and the whole request was received.
+    pub(crate) fn asks_for(&self, kind: Kind) -> bool
+        ensures { result ≡ asks_for kind self.now }
+    {
+        match self.asked() {
+            Some(request) => request.is(kind),
+            None => false,
         }
     }
 

@@ -1,20 +1,21 @@
 //! The port of a server at which an operator asks how it is, reads, edits and forgets rooms, lets
 //! clients in, and stops it.
 ghost use Rattle.std.specs.Prelude.{◌≡◌, ◌<◌, ◌≤◌, ◌+◌, ◌^◌, ◌⊎◌, IfSome, IsTrue, [], drop};
-ghost use Rattle.std.specs.Prelude.{option_and_then, option_copied, slice_get, vec_len};
+ghost use Rattle.std.specs.Prelude.{IfNone, IfOk, None, false, option_copied, string_bytes};
+ghost use Rattle.std.specs.Prelude.{vec_len};
+ghost use Rattle.std.specs.List.{remove};
 ghost use Rattle.relay_admin.specs.declared.request.AdminRequest.TheVariants.{Open, Stop};
 ghost use Rattle.relay_operator.specs.declared.admin_port.TheConstants.{MAX_CONNECTIONS};
 
 use crate::admin_connection::{AdminConnection, Found};
-use crate::admin_readiness::ADMIN_STREAM;
 use crate::admin_view::AdminView;
 use crate::admission::Admission;
 use crate::counters::Counters;
-use crate::readiness::Readiness;
-use crate::room_request::{self, Prepared, RoomRequest, RoomVisit};
+use crate::room_request::{self, Kind, Prepared, RoomRequest, RoomVisit};
 use relay_admin::{AdminRequest, Ask, response_text};
 use relay_hub::{ForgetFault, Hub};
 use relay_link::{EntranceFault, Visit};
+use relay_readiness::{ADMIN_STREAM, Readiness};
 use std::alloc::{AllocError, Global};
 use std::io::{Read, Write};
 use std::mem;
@@ -80,10 +81,15 @@ where
         }
     }
 
-    ghost use Rattle.relay_operator.specs.Connection.{asked_by};
     ghost use Rattle.relay_operator.specs.Response.{AnswersAsk};
     ghost use Rattle.relay_operator.specs.Port.{Admits, Answered, AsksAt, Holds, OnlyAt};
     ghost use Rattle.relay_operator.specs.Port.{SomeAdmits, SomeAsks, SomeForgets};
+    ghost use Rattle.relay_operator.specs.Answering.{AdmitsRoom, AnswersAt, FindsNext, FirstAdmits};
+    ghost use Rattle.relay_operator.specs.Answering.{FirstForgets, GivesAt, PreparesAt};
+    ghost use Rattle.relay_operator.specs.Answering.{SaysAdmitted, SaysForgotten, SaysVisited};
+    ghost use Rattle.relay_operator.specs.Answering.{asked_at, first_to};
+    ghost use Rattle.relay_operator.specs.RoomRequest.{is_some_of};
+    ghost use Rattle.relay_operator.specs.declared.room_request.Kind.TheVariants as kind;
 
     /// Accepts connections that wait, at most as many as may be held. Returns whether more may
     /// wait. A connection that cannot be held is dropped.
@@ -251,15 +257,17 @@ where
     /// The request of the oldest connection that asks for a room to be opened or closed.
     pub fn next_admission(&self) -> Option<Admission<'_>>
         // A room is named only if a connection asks for it to be opened or closed.
-        ensures { IfSome result (λ asked. SomeAdmits asked self.now.connections.items) }
+        ensures some { IfSome result (λ asked. SomeAdmits asked self.now.connections.items) }
+        ensures first { IfSome result (λ asked. FirstAdmits asked self.now.connections.items) }
+        ensures none { IfNone result
+            (first_to kind.Admission self.now.connections.items ≡ None) }
     {
-        self.admission_at(self.first_to_admit()?)
+        self.admission_at(self.first_to(Kind::Admission)?)
     }
 
     /// The request that the connection at an index makes of a room, while that has no response.
     fn asked_at(&self, index: usize) -> Option<&RoomRequest>
-        ensures { option_copied result
-            ≡ option_and_then asked_by (slice_get self.now.connections.items index) }
+        ensures { option_copied result ≡ asked_at index self.now.connections.items }
     {
         match self.connections.get(index) {
             Some(connection) => connection.asked(),
@@ -267,8 +275,13 @@ where
         }
     }
 
+    /// The request at an index, if it is one for the way into a room.
     fn admission_at(&self, index: usize) -> Option<Admission<'_>>
-        ensures { IfSome result (λ asked. SomeAdmits asked self.now.connections.items) }
+        ensures some { IfSome result (λ asked. SomeAdmits asked self.now.connections.items) }
+        ensures at { IfSome result
+            (λ asked. AdmitsRoom (asked_at index self.now.connections.items) asked) }
+        ensures none { IfNone result
+            (is_some_of kind.Admission (asked_at index self.now.connections.items) ≡ false) }
     {
         match self.asked_at(index)? {
             RoomRequest::Open(room) => Some(Admission::Open(room.as_str())),
@@ -279,23 +292,31 @@ where
 
     /// Responds to that connection, by what came of it. A connection for which there is no memory
     /// is dropped.
-    pub fn answer_admission(&mut self, alloc: Global, came: Result<(), EntranceFault>) {
-        let Some(index) = self.first_to_admit() else {
+    pub fn answer_admission(&mut self, alloc: Global, came: Result<(), EntranceFault>)
+        ensures { AnswersAt L.Stream.contents (first_to kind.Admission self.old.connections.items)
+            (λ index. SaysAdmitted (asked_at index self.old.connections.items) came)
+            self.old.connections.items self.new.connections.items }
+    {
+        let Some(index) = self.first_to(Kind::Admission) else {
             return;
         };
-        let reply = match self.admission_at(index) {
-            Some(asked) => response_text(alloc, &asked.response(came)),
-            None => return,
+        let Some(asked) = self.admission_at(index) else {
+            unreachable!()
         };
+        let reply = response_text(alloc, &asked.response(came));
         self.answer_at(index, reply);
     }
 
     /// The room that the oldest connection names which asks for a room to be forgotten.
     pub fn room_to_forget(&self) -> Option<&str>
         // A room is named only if a connection asks for it to be forgotten.
-        ensures { IfSome result (λ room. SomeForgets room.now self.now.connections.items) }
+        ensures some { IfSome result (λ room. SomeForgets room.now self.now.connections.items) }
+        ensures first { IfSome result
+            (λ room. FirstForgets room.now self.now.connections.items) }
+        ensures none { IfNone result
+            (first_to kind.Forgetting self.now.connections.items ≡ None) }
     {
-        match self.asked_at(self.first_to_forget()?)? {
+        match self.asked_at(self.first_to(Kind::Forgetting)?)? {
             RoomRequest::Forget(room) => Some(room.as_str()),
             _ => None,
         }
@@ -303,19 +324,28 @@ where
 
     /// Responds to that connection, by what came of it. A connection for which there is no memory
     /// is dropped.
-    pub fn answer_forget(&mut self, alloc: Global, came: Result<u64, ForgetFault>) {
-        if let Some(index) = self.first_to_forget() {
-            let response = room_request::forgotten(came);
-            self.answer_at(index, response_text(alloc, &response));
-        }
+    pub fn answer_forget(&mut self, alloc: Global, came: Result<u64, ForgetFault>)
+        ensures { AnswersAt L.Stream.contents (first_to kind.Forgetting self.old.connections.items)
+            (λ index. SaysForgotten came) self.old.connections.items self.new.connections.items }
+    {
+        let Some(index) = self.first_to(Kind::Forgetting) else {
+            return;
+        };
+        let reply = response_text(alloc, &room_request::forgotten(came));
+        self.answer_at(index, reply);
     }
 
     /// The visit that the oldest connection needs which asks to read or to edit a room. The
     /// connections before it that need none get their responses here; one for whose response there
     /// is no memory is dropped.
-    pub fn next_visit(&mut self, alloc: Global, hub: &Hub) -> Option<RoomVisit> {
+    pub fn next_visit(&mut self, alloc: Global, hub: &Hub) -> Option<RoomVisit>
+        ensures { FindsNext L.Stream.contents hub.now self.old.connections.items
+            self.new.connections.items result }
+    {
         for _ in 0..MAX_CONNECTIONS {
-            let index = self.first_to_visit()?;
+            let Some(index) = self.first_to(Kind::Visit) else {
+                return None;
+            };
             match self.prepare_at(alloc, hub, index) {
                 Ok(Prepared::Visit(visit)) => return Some(visit),
                 Ok(Prepared::Response(reply)) => self.answer_at(index, Ok(reply)),
@@ -325,7 +355,10 @@ where
         None
     }
 
-    fn prepare_at(&self, alloc: Global, hub: &Hub, index: usize) -> Result<Prepared, AllocError> {
+    /// The result of the request at an index, by the hub as it is.
+    fn prepare_at(&self, alloc: Global, hub: &Hub, index: usize) -> Result<Prepared, AllocError>
+        ensures { IfOk result (PreparesAt hub.now self.now.connections.items index) }
+    {
         let connection = self.connections.get(index).ok_or(AllocError)?;
         match connection.asked() {
             Some(RoomRequest::Read(part)) => room_request::prepare_read(alloc, hub, part),
@@ -338,70 +371,77 @@ where
 
     /// Responds to that connection, by what came of its visit. A connection for which there is no
     /// memory is dropped.
-    pub fn answer_visit(&mut self, alloc: Global, hub: &Hub, came: Result<Visit, AllocError>) {
-        if let Some(index) = self.first_to_visit() {
-            let reply = self.visited_at(alloc, hub, index, came);
-            self.answer_at(index, reply);
-        }
+    pub fn answer_visit(&mut self, alloc: Global, hub: &Hub, came: Result<Visit, AllocError>)
+        ensures { AnswersAt L.Stream.contents (first_to kind.Visit self.old.connections.items)
+            (λ index. SaysVisited hub.now (asked_at index self.old.connections.items) came)
+            self.old.connections.items self.new.connections.items }
+    {
+        let Some(index) = self.first_to(Kind::Visit) else {
+            return;
+        };
+        let reply = self.visited_at(alloc, hub, index, came);
+        self.answer_at(index, reply);
     }
 
+    /// The response to the request at an index, by what came of its visit.
     fn visited_at(
         &self,
         alloc: Global,
         hub: &Hub,
         index: usize,
         came: Result<Visit, AllocError>,
-    ) -> Result<String, AllocError> {
-        let connection = self.connections.get(index).ok_or(AllocError)?;
-        let request = connection.asked().ok_or(AllocError)?;
-        room_request::visited(alloc, hub, request, &came?)
+    ) -> Result<String, AllocError>
+        ensures { IfOk result
+            (λ text. SaysVisited hub.now (asked_at index self.now.connections.items) came
+            (string_bytes text)) }
+    {
+        let request = self.asked_at(index).ok_or(AllocError)?;
+        let visit = came?;
+        room_request::visited(alloc, hub, request, &visit)
     }
 
-    /// Gives the connection at an index its response, if there was memory for one, and sends it.
-    fn answer_at(&mut self, index: usize, reply: Result<String, AllocError>) {
-        let found = match (self.connections.get_mut(index), reply) {
-            (Some(connection), Ok(reply)) => {
-                connection.answer(reply);
-                connection.tell()
-            }
-            (_, _) => Found::Over,
+    /// Gives the connection at an index its response, and sends it; drops the connection if there
+    /// was no memory for one.
+    fn answer_at(&mut self, index: usize, reply: Result<String, AllocError>)
+        ensures { GivesAt L.Stream.contents index reply self.old.connections.items
+            self.new.connections.items }
+    {
+        let Ok(reply) = reply else {
+            self.drop_at(index);
+            return;
         };
-        if found == Found::Over && index < self.connections.len() {
-            let _ = self.connections.remove(index);
+        let Some(connection) = self.connections.get_mut(index) else {
+            return;
+        };
+        connection.answer(reply);
+        let found = connection.tell();
+        if found == Found::Over {
+            self.drop_at(index);
+            return;
         }
         self.is_behind = self.is_behind || found == Found::More;
     }
 
+    /// Drops the connection at an index, if there is one.
+    fn drop_at(&mut self, index: usize)
+        ensures { self.new.connections.items ≡ remove self.old.connections.items index }
+    {
+        if index < self.connections.len() {
+            let _ = self.connections.remove(index);
+        }
+    }
+
     /// True if a response that was given between turns is still to be sent, or a visit to be made.
     pub fn is_behind(&self) -> bool {
-        self.is_behind || self.first_to_visit().is_some()
+        self.is_behind || self.first_to(Kind::Visit).is_some()
     }
 
-    /// The index of the oldest connection that asks for a room to be opened or closed.
-    fn first_to_admit(&self) -> Option<usize> {
-        self.connections.iter().position(|connection| {
-            matches!(
-                connection.asked(),
-                Some(RoomRequest::Open(_) | RoomRequest::Close(_))
-            )
-        })
-    }
-
-    /// The index of the oldest connection that asks for a room to be forgotten.
-    fn first_to_forget(&self) -> Option<usize> {
-        self.connections.iter().position(|connection| matches!(
-            connection.asked(),
-            Some(RoomRequest::Forget(_))
-        ))
-    }
-
-    /// The index of the oldest connection that asks to read or to edit a room.
-    fn first_to_visit(&self) -> Option<usize> {
-        self.connections.iter().position(|connection| {
-            matches!(
-                connection.asked(),
-                Some(RoomRequest::Read(_) | RoomRequest::Edit(_))
-            )
-        })
+    /// The index of the oldest connection that asks for something of a kind.
+    fn first_to(&self, kind: Kind) -> Option<usize>
+        ensures { result ≡ first_to kind self.now.connections.items }
+    {
+        self.connections
+            .iter()
+            .position(|connection| connection.asks_for(kind))
     }
 }

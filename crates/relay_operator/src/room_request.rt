@@ -1,6 +1,6 @@
 //! The request for a room, and the response by what came of it.
-ghost use Rattle.std.specs.Prelude.{◌≡◌, IfOk, map, string_bytes};
-ghost use Rattle.relay_operator.specs.RoomRequest.{asked_of_room};
+ghost use Rattle.std.specs.Prelude.{◌≡◌, IfOk, string_bytes};
+ghost use Rattle.relay_operator.specs.RoomRequest.{asked_of_room, is_of};
 ghost use Rattle.relay_operator.specs.Visiting.{AnswersTexts, AnswersVisit, IsVisitResponse};
 ghost use Rattle.relay_operator.specs.Visiting.{PreparesEdit, PreparesRead, Responds, SaysNotJson};
 ghost use Rattle.relay_operator.specs.Visiting.{forgotten_response, refused_response};
@@ -45,6 +45,26 @@ impl RoomRequest {
             asked => Err(asked),
         }
     }
+
+    /// True if it is of that kind.
+    pub(crate) fn is(&self, kind: Kind) -> bool
+        ensures { result ≡ is_of kind self.now }
+    {
+        match (kind, self) {
+            (Kind::Admission, RoomRequest::Open(_) | RoomRequest::Close(_)) => true,
+            (Kind::Forgetting, RoomRequest::Forget(_)) => true,
+            (Kind::Visit, RoomRequest::Read(_) | RoomRequest::Edit(_)) => true,
+            _ => false,
+        }
+    }
+}
+
+/// The kinds of requests, by the call of a server that serves them.
+#[derive(Clone, Copy, Debug, PartialEq, Eq)]
+pub(crate) enum Kind {
+    Admission,
+    Forgetting,
+    Visit,
 }
 
 /// A visit that answers a request ([`Visit::make`]).
@@ -164,7 +184,7 @@ fn response_by<'v>(
     visit: &'v Visit,
 ) -> Result<Response<'v>, AllocError>
     ensures { IfOk result (AnswersVisit hub.now request.now visit.now.outcome
-        (map string_bytes visit.now.texts.items)) }
+        visit.now.texts.items) }
 {
     match visit.outcome {
         VisitOutcome::Refused(fault) => Ok(refused(fault)),
@@ -196,10 +216,10 @@ fn answered<'t>(
     hub: &Hub,
     request: &RoomRequest,
     rev: u64,
-    texts: &'t [String],
+    texts: &'t [Text],
 ) -> Result<Response<'t>, AllocError>
     ensures { IfOk result
-        (AnswersTexts hub.now request.now rev (map string_bytes texts.now)) }
+        (AnswersTexts hub.now request.now rev texts.now) }
 {
     let (Some(reply), tag) = (texts.get(1), tag_of(hub, rev)) else {
         return Err(AllocError);

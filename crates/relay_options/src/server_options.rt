@@ -154,8 +154,8 @@ fn output<'a>(alloc: Global) -> Arg<'a>
 {
     number(alloc, "max-output-mib", 1, MAX_OUTPUT_MIB)
         .help(
-            "How many MiB of output are held for all sessions together, 1 to 1048576; beyond, \
-             those that hold the most and take nothing are ended",
+            "How many MiB of output are held for all sessions together, 1 to 1048576; from three \
+             quarters on, large snapshots wait, and the connections that hold the most are ended",
         )
         .default_value(OUTPUT_MIB)
 }

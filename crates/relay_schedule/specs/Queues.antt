@@ -3,8 +3,8 @@ use Rattle.std.specs.Prelude.{ℕ, Bool, ◌&&◌, ◌||◌, not, if◌then◌el
 use Rattle.relay_schedule.specs.Credit.{has_credit}
 use Rattle.relay_schedule.specs.Queue.{Keys, Admits, MayAdmit, no_keys, is_empty, waits, admitting}
 use Rattle.relay_schedule.specs.Queue.{queued, without_first}
-use Rattle.relay_schedule.specs.Ready.{BothAdmit, LinesMayAdmit, no_lines, are_empty, stands}
-use Rattle.relay_schedule.specs.Ready.{both_admitting, lined_up}
+use Rattle.relay_schedule.specs.Ready.{EachAdmits, LinesMayAdmit, no_lines, are_empty, stands}
+use Rattle.relay_schedule.specs.Ready.{each_admitting, lined_up}
 use Rattle.relay_schedule.specs.declared.credit.Credit.{Credit}
 use Rattle.relay_schedule.specs.declared.queues.Output.{Output}
 use Rattle.relay_schedule.specs.declared.queues.Output.TheVariants.{Corked, Waiting}
@@ -23,7 +23,7 @@ no_queues = record {
 
 -- there is memory for this key in each queue
 pub record AllAdmit (key : ℕ) (queues : Queues) : Type 0 where
-  pub ready : BothAdmit key queues.ready
+  pub ready : EachAdmits key queues.ready
   pub corked : Admits key queues.corked
   pub waiting : Admits key queues.waiting
   pub held_back : Admits key queues.held_back
@@ -32,7 +32,7 @@ pub record AllAdmit (key : ℕ) (queues : Queues) : Type 0 where
 -- each queue admits this key too, and those below it
 abbrev pub all_admitting : ℕ → Queues → Queues
 all_admitting key queues = record {
-  ready = both_admitting key queues.ready;
+  ready = each_admitting key queues.ready;
   corked = admitting key queues.corked;
   waiting = admitting key queues.waiting;
   held_back = admitting key queues.held_back;

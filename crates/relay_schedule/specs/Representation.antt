@@ -48,9 +48,11 @@ pub record IsLinedUp (line : turn_line.Inside) : Type 0 where
 abbrev pub lines_of : ready_queue.Inside → Lines
 lines_of queue = record {
   credited = queue.credited;
-  owing = queue.owing;
+  light = queue.light;
+  heavy = queue.heavy;
   round = queue.round;
-  left = queue.left;
+  light_left = queue.light_left;
+  heavy_left = queue.heavy_left;
 }
 
 -- the invariant of the fields

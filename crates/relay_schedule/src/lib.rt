@@ -3,11 +3,12 @@
 //! Each connection has a [`Credit`], to which each round adds the same. A turn takes what it cost,
 //! which is counted and not known before, so a credit may be overdrawn. Whoever has credit left has
 //! turns first, in order ([`ReadyQueue`]). Those who have none have theirs behind them, in order
-//! too: one of them at least in each round. A line is visited in passes, and a connection that a
-//! pass skips, since its room may not be read ahead, comes before all that had a turn
-//! ([`TurnLine`]). A room is read no further ahead than may wait for a watcher that keeps up
-//! ([`ReadAheadByRoom`]), and a round ends once it has cost as much as it may ([`Spending`]).
-//! Output that is not sent is counted, link by link ([`LinkOutput`], [`OutputTotal`]).
+//! too, in two lines by their [`Debt`]: one of each at least in each round. A line is visited in
+//! passes, and a connection that a pass skips, since its room may not be read ahead, comes before
+//! all that had a turn ([`TurnLine`]). A room is read no further ahead than may wait for a watcher
+//! that keeps up ([`ReadAheadByRoom`]), and a round ends once it has cost as much as it may
+//! ([`Spending`]). Output that is not sent is counted, link by link ([`LinkOutput`],
+//! [`OutputTotal`]).
 //!
 //! The promise: a credit never exceeds a round's; a queue serves each that waits once before it
 //! serves any twice (`once_before_twice` of [`KeyQueue::len`]); a pass visits each that waits once
@@ -30,7 +31,7 @@ mod ready_queue;
 mod spending;
 mod turn_line;
 
-pub use credit::{Credit, ENTRY_DEBT, ROUND_CREDIT};
+pub use credit::{Credit, Debt, ENTRY_DEBT, HEAVY_TURN, ROUND_CREDIT};
 pub use empty_rooms::EmptyRooms;
 pub use key_queue::KeyQueue;
 pub use output::{BEHIND, CROWDED_PATIENCE, LinkOutput, OutputTotal, PATIENCE};

@@ -10,7 +10,7 @@ use std::alloc::{AllocError, Global};
 /// let mut queues = Queues::new(alloc);
 /// queues.admit(1).ok()?;
 /// let wants = Wants { read: false, corked: true, waiting: false, closing: false };
-/// queues.push(1, wants, Credit { spent: 0, round: 0 });
+/// queues.push(1, wants, Credit::fresh(0));
 /// assert!(rt; queues.pop_writer(Output::Waiting) == None);
 /// assert!(rt; queues.pop_writer(Output::Corked) == Some(1));
 /// ```
@@ -28,7 +28,7 @@ pub enum Output {
 /// let mut queues = Queues::new(alloc);
 /// queues.admit(1).ok()?;
 /// let wants = Wants { read: true, corked: false, waiting: true, closing: false };
-/// queues.push(1, wants, Credit { spent: 0, round: 0 });
+/// queues.push(1, wants, Credit::fresh(0));
 /// queues.ready.begin_credited_pass();
 /// assert!(rt; queues.ready.pop_credited() == Some(1));
 /// assert!(rt; queues.pop_writer(Output::Waiting) == Some(1));
@@ -126,7 +126,7 @@ impl Queues {
     /// // A new connection owes.
     /// queues.push(1, wants, Credit::of_new(0));
     /// queues.ready.begin_owing_pass();
-    /// assert!(rt; queues.ready.credited() == 0 && queues.ready.pop_owing() == Some(1));
+    /// assert!(rt; queues.ready.credited() == 0 && queues.ready.pop_owing(Debt::Light) == Some(1));
     /// ```
     pub fn push(&mut self, key: usize, wants: Wants, credit: Credit)
         ensures { self.new ≡ queued_for key wants credit self.old }
@@ -229,7 +229,7 @@ impl Queues {
     /// let mut queues = Queues::new(alloc);
     /// queues.admit(1).ok()?;
     /// let wants = Wants { read: false, corked: false, waiting: false, closing: true };
-    /// queues.push(1, wants, Credit { spent: 0, round: 0 });
+    /// queues.push(1, wants, Credit::fresh(0));
     /// assert!(rt; queues.pop_closing() == Some(1) && queues.pop_closing() == None);
     /// ```
     pub fn pop_closing(&mut self) -> Option<usize>
@@ -245,7 +245,7 @@ impl Queues {
     /// let mut queues = Queues::new(alloc);
     /// queues.admit(1).ok()?;
     /// let wants = Wants { read: false, corked: false, waiting: false, closing: true };
-    /// queues.push(1, wants, Credit { spent: 0, round: 0 });
+    /// queues.push(1, wants, Credit::fresh(0));
     /// assert!(rt; queues.closing() == 1 && !queues.has_work());
     /// ```
     pub fn closing(&self) -> usize

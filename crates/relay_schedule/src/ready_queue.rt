@@ -1,32 +1,37 @@
 //! The connections that may be read, in the order of their turns.
-use crate::credit::Credit;
+use crate::credit::{Credit, Debt};
 use crate::turn_line::TurnLine;
 use std::alloc::{AllocError, Global};
 use std::marker::Model;
 
-/// Two lines of keys: `credited`, which is served first, and `owing`. A server's round serves one
-/// key of `owing` at least, and more while it has cost less than its bound. No key is in both. Each
-/// line is visited in passes ([`TurnLine`](crate::TurnLine)): who was skipped comes before who was
-/// served. A round of credit ends with the pass in which the last of those who owed when it began
-/// had its turn or was skipped. Contracts see it as `Lines`.
+/// Three lines of keys: of those with credit, which is served first, and two of those who owe, by
+/// their debt. A server's round serves one key of either debt at least, and more while it has cost
+/// less than its bound. So whoever is new waits for one heavy turn, and not for one of each that
+/// owes it. No key is in two lines. Each line is visited in passes
+/// ([`TurnLine`](crate::TurnLine)): who was skipped comes before who was served. A round of credit
+/// ends with the pass in which the last of those who owed when it began had its turn or was
+/// skipped. Contracts see it as `Lines`.
 ///
 /// ```
 /// let mut ready = ReadyQueue::new(alloc);
 /// ready.admit(2).ok()?;
-/// ready.push(1, Credit { spent: ROUND_CREDIT, round: ready.round() });
-/// ready.push(2, Credit { spent: 0, round: ready.round() });
+/// ready.push(1, Credit::of_new(ready.round()));
+/// ready.push(2, Credit::fresh(ready.round()));
 /// ready.begin_credited_pass();
 /// ready.begin_owing_pass();
-/// // The first one has spent its credit.
-/// assert!(rt; ready.owing() == 1 && ready.credited() == 1);
+/// assert!(rt; ready.owing(Debt::Light) == 1 && ready.owing(Debt::Heavy) == 0);
+/// assert!(rt; ready.credited() == 1);
 /// ```
 #[derive(Drop)]
 pub struct ReadyQueue {
     credited: TurnLine,
-    owing: TurnLine,
+    light: TurnLine,
+    heavy: TurnLine,
     round: u64,
-    /// The number of those who owe that were not visited in this round.
-    left: usize,
+    /// The number of those in `light`, and of those in `heavy`, that were not visited in this
+    /// round.
+    light_left: usize,
+    heavy_left: usize,
 }
 
 impl Model for ReadyQueue {
@@ -44,14 +49,15 @@ impl Model for ReadyQueue {
 }
 
 impl ReadyQueue {
-    ghost use Rattle.std.specs.Prelude.{◌≡◌, IsOk, OnOk, OnErr, length, drop, ◌==◌};
+    ghost use Rattle.std.specs.Prelude.{◌≡◌, IsOk, OnOk, OnErr, length, drop};
     ghost use Rattle.std.specs.Prelude.{if◌then◌else◌};
     ghost use Rattle.relay_schedule.specs.TurnLine.{first, order};
-    ghost use Rattle.relay_schedule.specs.Ready.{AreLines, BothAdmit, LinesMayAdmit, no_lines};
-    ghost use Rattle.relay_schedule.specs.Ready.{are_empty, stands, both_admitting, lined_up};
+    ghost use Rattle.relay_schedule.specs.Ready.{AreLines, EachAdmits, LinesMayAdmit, no_lines};
+    ghost use Rattle.relay_schedule.specs.Ready.{are_empty, stands, each_admitting, lined_up};
     ghost use Rattle.relay_schedule.specs.Ready.{skipped_in_line, in_credited_pass, in_owing_pass};
-    ghost use Rattle.relay_schedule.specs.Ready.{in_round, without_credited, without_owing};
-    ghost use Rattle.relay_schedule.specs.Ready.{unserved};
+    ghost use Rattle.relay_schedule.specs.Ready.{in_round, is_over, owing, without_credited};
+    ghost use Rattle.relay_schedule.specs.Ready.{without_owing, unserved};
+    ghost use Rattle.relay_schedule.specs.declared.credit.Debt.{Debt};
 
     /// A queue without keys, which admits none.
     ///
@@ -63,9 +69,11 @@ impl ReadyQueue {
     {
         ReadyQueue {
             credited: TurnLine::new(alloc),
-            owing: TurnLine::new(alloc),
+            light: TurnLine::new(alloc),
+            heavy: TurnLine::new(alloc),
             round: 1,
-            left: 0,
+            light_left: 0,
+            heavy_left: 0,
         }
     }
 
@@ -79,12 +87,13 @@ impl ReadyQueue {
     /// assert!(rt; ready.contains(2));
     /// ```
     pub fn admit(&mut self, key: usize) -> Result<(), AllocError>
-        ensures ok { OnOk result (self.new ≡ both_admitting key self.old) }
+        ensures ok { OnOk result (self.new ≡ each_admitting key self.old) }
         ensures err { OnErr result (LinesMayAdmit key self.old self.new) }
-        ensures admitted { BothAdmit key self.old → IsOk result }
+        ensures admitted { EachAdmits key self.old → IsOk result }
     {
         self.credited.admit(key)?;
-        self.owing.admit(key)
+        self.light.admit(key)?;
+        self.heavy.admit(key)
     }
 
     /// The round of credit.
@@ -110,23 +119,25 @@ impl ReadyQueue {
     /// ready.admit(1).ok()?;
     /// // Connection 0 is new and owes; connection 1 has spent nothing.
     /// ready.push(0, Credit::of_new(ready.round()));
-    /// ready.push(1, Credit { spent: 0, round: ready.round() });
+    /// ready.push(1, Credit::fresh(ready.round()));
     /// ready.begin_credited_pass();
     /// assert!(rt; ready.pop_credited() == Some(1) && ready.pop_credited() == None);
     /// ready.begin_owing_pass();
-    /// assert!(rt; ready.pop_owing() == Some(0));
+    /// assert!(rt; ready.pop_owing(Debt::Light) == Some(0));
     /// ```
     pub fn push(&mut self, key: usize, credit: Credit)
         ensures lined_up { self.new ≡ lined_up key credit self.old }
-        ensures in_turn { unserved self.new ≡ unserved self.old }
+        ensures in_turn { (debt : Debt) → unserved debt self.new ≡ unserved debt self.old }
     {
         if self.contains(key) {
             return;
         }
         if credit.is_left() {
             self.credited.push(key);
+        } else if credit.is_heavy {
+            self.heavy.push(key);
         } else {
-            self.owing.push(key);
+            self.light.push(key);
         }
     }
 
@@ -140,25 +151,27 @@ impl ReadyQueue {
     /// ready.push(1, Credit::of_new(ready.round()));
     /// ready.begin_owing_pass();
     /// // Connection 0 has a turn, and connection 1 is skipped.
-    /// ready.pop_owing()?;
+    /// ready.pop_owing(Debt::Light)?;
     /// ready.push(0, Credit::of_new(ready.round()));
-    /// ready.pop_owing()?;
+    /// ready.pop_owing(Debt::Light)?;
     /// ready.skip(1, Credit::of_new(ready.round()));
     /// ready.begin_owing_pass();
-    /// assert!(rt; ready.pop_owing() == Some(1) && ready.pop_owing() == Some(0));
+    /// assert!(rt; ready.pop_owing(Debt::Light) == Some(1));
+    /// assert!(rt; ready.pop_owing(Debt::Light) == Some(0));
     /// ```
     pub fn skip(&mut self, key: usize, credit: Credit)
         ensures skipped { self.new ≡ skipped_in_line key credit self.old }
-        ensures in_turn { unserved self.new ≡ unserved self.old }
+        ensures in_turn { (debt : Debt) → unserved debt self.new ≡ unserved debt self.old }
     {
         if self.contains(key) {
             return;
         }
-        let owes = !credit.is_left();
-        if owes {
-            self.owing.skip(key);
-        } else {
+        if credit.is_left() {
             self.credited.skip(key);
+        } else if credit.is_heavy {
+            self.heavy.skip(key);
+        } else {
+            self.light.skip(key);
         }
     }
 
@@ -168,7 +181,7 @@ impl ReadyQueue {
     /// ```
     /// let mut ready = ReadyQueue::new(alloc);
     /// ready.admit(0).ok()?;
-    /// ready.push(0, Credit { spent: 0, round: ready.round() });
+    /// ready.push(0, Credit::fresh(ready.round()));
     /// // It came since the last pass began.
     /// assert!(rt; ready.pop_credited() == None);
     /// ready.begin_credited_pass();
@@ -191,20 +204,21 @@ impl ReadyQueue {
     /// ready.push(0, Credit::of_new(ready.round()));
     /// ready.begin_owing_pass();
     /// let round = ready.round();
-    /// ready.pop_owing()?;
+    /// ready.pop_owing(Debt::Light)?;
     /// // The second one was not visited in the round.
     /// ready.begin_owing_pass();
     /// assert!(rt; ready.round() == round);
-    /// ready.pop_owing()?;
+    /// ready.pop_owing(Debt::Light)?;
     /// ready.begin_owing_pass();
     /// assert!(rt; ready.round() == round + 1);
     /// ```
     pub fn begin_owing_pass(&mut self)
         ensures pass { self.new ≡ in_owing_pass self.old }
-        ensures in_turn { unserved self.new
-            ≡ (if self.old.left == 0 then order self.old.owing else unserved self.old) }
+        ensures in_turn { (debt : Debt) → unserved debt self.new
+            ≡ (if is_over self.old then order (owing debt self.old) else unserved debt self.old) }
     {
-        self.owing.begin_pass();
+        self.light.begin_pass();
+        self.heavy.begin_pass();
         self.begin_round();
     }
 
@@ -213,9 +227,10 @@ impl ReadyQueue {
         ensures kept { AreLines self.new }
         ensures round { self.new ≡ in_round self.old }
     {
-        if self.left == 0 {
+        if self.light_left == 0 && self.heavy_left == 0 {
             self.round = self.round.saturating_add(1);
-            self.left = self.owing.waiting();
+            self.light_left = self.light.waiting();
+            self.heavy_left = self.heavy.waiting();
         }
     }
 
@@ -237,8 +252,8 @@ impl ReadyQueue {
         self.credited.pop()
     }
 
-    /// Takes out the first key that the pass of those who owe has still to visit. Allocates
-    /// nothing.
+    /// Takes out the first key with such a debt that the pass of those who owe has still to visit.
+    /// Allocates nothing.
     ///
     /// ```
     /// let mut ready = ReadyQueue::new(alloc);
@@ -246,16 +261,25 @@ impl ReadyQueue {
     /// ready.push(1, Credit::of_new(ready.round()));
     /// ready.push(0, Credit::of_new(ready.round()));
     /// ready.begin_owing_pass();
-    /// assert!(rt; ready.pop_owing() == Some(1) && ready.pop_owing() == Some(0));
-    /// assert!(rt; ready.pop_owing() == None);
+    /// assert!(rt; ready.pop_owing(Debt::Light) == Some(1));
+    /// assert!(rt; ready.pop_owing(Debt::Light) == Some(0));
+    /// assert!(rt; ready.pop_owing(Debt::Light) == None);
     /// ```
-    pub fn pop_owing(&mut self) -> Option<usize>
-        ensures first { result ≡ first self.old.owing }
-        ensures rest { self.new ≡ without_owing self.old }
-        ensures in_turn { unserved self.new ≡ drop 1 (unserved self.old) }
+    pub fn pop_owing(&mut self, debt: Debt) -> Option<usize>
+        ensures first { result ≡ first (owing debt self.old) }
+        ensures rest { self.new ≡ without_owing debt self.old }
+        ensures in_turn { unserved debt self.new ≡ drop 1 (unserved debt self.old) }
     {
-        self.left = self.left.saturating_sub(1);
-        self.owing.pop()
+        match debt {
+            Debt::Light => {
+                self.light_left = self.light_left.saturating_sub(1);
+                self.light.pop()
+            }
+            Debt::Heavy => {
+                self.heavy_left = self.heavy_left.saturating_sub(1);
+                self.heavy.pop()
+            }
+        }
     }
 
     /// The number of keys with credit that the pass has still to visit: all of them as it begins.
@@ -265,9 +289,9 @@ impl ReadyQueue {
     /// ```
     /// let mut ready = ReadyQueue::new(alloc);
     /// ready.admit(0).ok()?;
-    /// ready.push(0, Credit { spent: 0, round: ready.round() });
+    /// ready.push(0, Credit::fresh(ready.round()));
     /// ready.begin_credited_pass();
-    /// assert!(rt; ready.credited() == 1 && ready.owing() == 0);
+    /// assert!(rt; ready.credited() == 1 && ready.owing(Debt::Light) == 0);
     /// ```
     pub fn credited(&self) -> usize
         ensures kept { AreLines self.now }
@@ -276,27 +300,30 @@ impl ReadyQueue {
         self.credited.waiting()
     }
 
-    /// The number of keys that owe and that the pass has still to visit: all of them as it begins.
-    /// A key that had a turn in the pass, or came since it began, does not count.
+    /// The number of keys with such a debt that the pass has still to visit: all of them as it
+    /// begins. A key that had a turn in the pass, or came since it began, does not count.
     ///
     /// ```
     /// let mut ready = ReadyQueue::new(alloc);
     /// ready.admit(0).ok()?;
     /// ready.push(0, Credit::of_new(ready.round()));
     /// ready.begin_owing_pass();
-    /// assert!(rt; ready.owing() == 1 && ready.credited() == 0);
+    /// assert!(rt; ready.owing(Debt::Light) == 1 && ready.credited() == 0);
     /// ```
-    pub fn owing(&self) -> usize
+    pub fn owing(&self, debt: Debt) -> usize
         ensures kept { AreLines self.now }
-        ensures count { result ≡ length self.now.owing.waiting }
+        ensures count { result ≡ length (owing debt self.now).waiting }
     {
-        self.owing.waiting()
+        match debt {
+            Debt::Light => self.light.waiting(),
+            Debt::Heavy => self.heavy.waiting(),
+        }
     }
 
     pub fn is_empty(&self) -> bool
         ensures { result ≡ are_empty self.now }
     {
-        self.credited.is_empty() && self.owing.is_empty()
+        self.credited.is_empty() && self.light.is_empty() && self.heavy.is_empty()
     }
 
     /// True if a key stands in one of the lines.
@@ -310,6 +337,6 @@ impl ReadyQueue {
     pub fn contains(&self, key: usize) -> bool
         ensures { result ≡ stands key self.now }
     {
-        self.credited.contains(key) || self.owing.contains(key)
+        self.credited.contains(key) || self.light.contains(key) || self.heavy.contains(key)
     }
 }

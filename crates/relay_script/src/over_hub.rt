@@ -5,6 +5,7 @@ ghost use Rattle.relay_script.specs.Transport.{outcome_of};
 
 use crate::outcome::Outcome;
 use crate::transport::Transport;
+use bytes::ByteStr;
 use relay_access::Access;
 use relay_hub::{Answer, Heard, Hub, HubFault, NoSession, OpenFault, Opening, Text};
 use relay_tree::Tree;
@@ -70,11 +71,11 @@ fn heard(heard: Result<Heard, HubFault>) -> Outcome
     }
 }
 
-fn drawn(drawn: Result<Option<String>, HubFault>) -> Outcome
+fn drawn(drawn: Result<Option<ByteStr>, HubFault>) -> Outcome
     ensures { result ≡ outcome_of (drawing drawn) }
 {
     match drawn {
-        Ok(text) => Outcome::Answered(Answer::Drawn(text.map(Text::of))),
+        Ok(text) => Outcome::Answered(Answer::Drawn(text.map(Text::shared))),
         Err(fault) => not_served(fault),
     }
 }

@@ -3,7 +3,7 @@ ghost use Rattle.std.specs.Prelude.{IfErr};
 ghost use Rattle.relay_server.specs.Jobs.{HasNoSockets};
 
 use relay_loopback::{ServeFault, listen, loopback_at};
-use relay_operator::Polling;
+use relay_readiness::Polling;
 use std::alloc::Global;
 use std::net::{Net, OpenListener, SocketAddr};
 

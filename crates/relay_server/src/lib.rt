@@ -22,7 +22,8 @@ pub use relay_event_loop::{
 };
 pub use relay_link::EndCause;
 pub use relay_loopback::{Client, ClientHandshake, ServeFault};
-pub use relay_operator::{AdminPort, AdminReadiness, Polling, Readiness, ReadyEvent, StreamReady};
+pub use relay_operator::AdminPort;
+pub use relay_readiness::{AdminReadiness, Polling, Readiness, ReadyEvent, StreamReady};
 pub use relay_script::{
     MAX_LINE, MAX_LINES, Respond, Script, ScriptFault, Transport, run_follow, run_script,
 };

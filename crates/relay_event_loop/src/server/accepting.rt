@@ -8,7 +8,7 @@ use crate::connection_log::{ConnectionLog, LogEntry};
 use crate::eviction_log::EvictionLog;
 use indexmap::IndexMap;
 use relay_link::EndCause;
-use relay_operator::Readiness;
+use relay_readiness::Readiness;
 use relay_schedule::Credit;
 use std::alloc::{AllocError, Global};
 use std::io::{ErrorKind, Read, Write};

@@ -12,7 +12,7 @@ use crate::connection_log::{ConnectionLog, LogEntry};
 use indexmap::IndexMap;
 use relay_hub::{Event, OpenFault};
 use relay_link::{DrawStop, EndCause, Stage, Turn};
-use relay_operator::Readiness;
+use relay_readiness::Readiness;
 use relay_schedule::{CROWDED_PATIENCE, LinkOutput, PATIENCE};
 use std::alloc::Global;
 use std::io::{Read, Write};

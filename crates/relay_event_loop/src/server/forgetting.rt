@@ -14,7 +14,7 @@ ghost use Rattle.relay_event_loop.specs.Rounds.{RoundsOf};
 use super::Server;
 use crate::connection_log::ConnectionLog;
 use relay_hub::ForgetFault;
-use relay_operator::Readiness;
+use relay_readiness::Readiness;
 use relay_schedule::EmptyRooms;
 use std::alloc::{AllocError, Global};
 use std::io::{Read, Write};

@@ -2,7 +2,7 @@
 ghost use Rattle.relay_event_loop.specs.Advances.{KeepsFewer};
 
 use super::Server;
-use relay_operator::{Readiness, ReadyEvent, StreamReady};
+use relay_readiness::{Readiness, ReadyEvent, StreamReady};
 use std::io::{Read, Write};
 use std::net::OpenStream;
 use std::time::Duration;

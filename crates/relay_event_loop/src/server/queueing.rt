@@ -12,7 +12,7 @@ ghost use Rattle.relay_event_loop.specs.Advances.{KeepsFewer};
 use super::Server;
 use crate::connection::Connection;
 use relay_link::Turn;
-use relay_operator::Readiness;
+use relay_readiness::Readiness;
 use relay_schedule::ReadAheadByRoom;
 use std::io::{Read, Write};
 use std::net::OpenStream;

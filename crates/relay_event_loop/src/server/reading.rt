@@ -4,14 +4,14 @@ ghost use Rattle.relay_event_loop.specs.Advances.{KeepsFewer};
 use super::Server;
 use crate::connection_log::ConnectionLog;
 use relay_link::{Turn, Watchers};
-use relay_operator::Readiness;
-use relay_schedule::{Output, Spending};
+use relay_readiness::Readiness;
+use relay_schedule::{Debt, Output, Spending};
 use std::alloc::Global;
 use std::io::{Read, Write};
 use std::net::OpenStream;
 
 /// The cost in microseconds at which a round begins no further read turn and no further will. One
-/// turn of a connection that owes, and one will, are always allowed.
+/// turn of a connection of either debt, and one will, are always allowed.
 pub(super) const ROUND_COST: u64 = 5_000;
 
 /// A bound for loops that stop by cost: each step but the last costs a microsecond at least.
@@ -114,8 +114,8 @@ impl<S: Read + Write + OpenStream + Drop, R: Readiness<S>> Server<S, R> {
         spending
     }
 
-    /// Reads once from each connection that owes, and whose room may be read ahead: from one at
-    /// least, and from others until the round has cost what it may. Returns what it cost.
+    /// Reads once from each connection that owes, those with a light debt first. Returns what it
+    /// cost.
     #[tactic(auto, using(crate::proofs::Rules::advances))]
     fn read_each_owing<J: ConnectionLog>(
         &mut self,
@@ -125,13 +125,29 @@ impl<S: Read + Write + OpenStream + Drop, R: Readiness<S>> Server<S, R> {
     ) -> Spending
         ensures { KeepsFewer S.remaining S.contents self.old self.new }
     {
-        let mut spending = before;
         self.queues.ready.begin_owing_pass();
-        for _ in 0..self.queues.ready.owing() {
+        let light = self.read_each_with(alloc, Debt::Light, before, log);
+        self.read_each_with(alloc, Debt::Heavy, light, log)
+    }
+
+    /// Reads once from each connection with such a debt whose room may be read ahead: from one at
+    /// least, and from others until the round has cost what it may. Returns what it cost.
+    #[tactic(auto, using(crate::proofs::Rules::advances))]
+    fn read_each_with<J: ConnectionLog>(
+        &mut self,
+        alloc: Global,
+        debt: Debt,
+        before: Spending,
+        log: &mut J,
+    ) -> Spending
+        ensures { KeepsFewer S.remaining S.contents self.old self.new }
+    {
+        let mut spending = before;
+        for _ in 0..self.queues.ready.owing(debt) {
             if spending != before && !spending.allows_more() {
                 return spending;
             }
-            let Some(key) = self.queues.ready.pop_owing() else {
+            let Some(key) = self.queues.ready.pop_owing(debt) else {
                 return spending;
             };
             spending.spend(self.read_at(alloc, key, log));

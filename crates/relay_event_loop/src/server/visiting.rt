@@ -12,7 +12,7 @@ use crate::connection_log::ConnectionLog;
 use relay_access::Access;
 use relay_hub::Text;
 use relay_link::Visit;
-use relay_operator::Readiness;
+use relay_readiness::Readiness;
 use std::alloc::{AllocError, Global};
 use std::io::{Read, Write};
 use std::net::OpenStream;

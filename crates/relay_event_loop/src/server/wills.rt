@@ -9,7 +9,7 @@ use super::Server;
 use super::reading::{MAX_PASSES, TURN_COST};
 use crate::connection_log::ConnectionLog;
 use relay_limits::MAX_SESSIONS;
-use relay_operator::Readiness;
+use relay_readiness::Readiness;
 use relay_schedule::Spending;
 use std::alloc::{AllocError, Global};
 use std::io::{Read, Write};

@@ -6,7 +6,7 @@ use super::reading::TURN_COST;
 use crate::connection::Connection;
 use crate::connection_log::ConnectionLog;
 use relay_link::MAX_DRAWS;
-use relay_operator::Readiness;
+use relay_readiness::Readiness;
 use relay_schedule::{Output, Spending};
 use std::alloc::Global;
 use std::io::{Read, Write};

@@ -81,7 +81,7 @@ impl Hub {
                 Err(HubFault::NoMemory) => Err(AllocError),
             },
             Event::Draw { session } => match self.draw(alloc, *session) {
-                Ok(text) => Ok(Answer::Drawn(text.map(Text::of))),
+                Ok(text) => Ok(Answer::Drawn(text.map(Text::shared))),
                 Err(HubFault::NoSession) => Ok(Answer::NoSession),
                 Err(HubFault::NoMemory) => Err(AllocError),
             },

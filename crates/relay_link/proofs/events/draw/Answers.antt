@@ -1,10 +1,11 @@
 -- A draw that has an answer is the one event, and gives the text of that answer.
-use Rattle.std.proofs.Common.{refl, sym, option_map, ◌∙◌}
-use Rattle.std.specs.String.{string_bytes}
+use Rattle.std.proofs.Common.{refl, sym, subst, ◌∙◌, IsUtf8}
+use Rattle.std.specs.List.{AllByRecursion}
 use Rattle.relay_hub.specs.declared.event.Answer.TheVariants.{Drawn, NoSession}
+use Rattle.relay_link.specs.Follows.{given}
 use Rattle.relay_link.proofs.Following.{follows_same, follows_one}
 use Rattle.relay_link.proofs.Stopping.{nothing_left, nobody_left}
-use Rattle.relay_link.proofs.Telling.{drew_same, drew_one, given_utf8}
+use Rattle.relay_link.proofs.Telling.{drew_same, drew_one}
 use Rattle.relay_link.proofs.events.draw.Goals as goal
 use Rattle.relay_link.proofs.events.draw.Goals.{in-Ok, in-Err-NoSession}
 
@@ -20,21 +21,25 @@ returns-in-Err-NoMemory-clause-drew_none c =
 
 pub returns-clause-follows : goal.returns-clause-follows
 returns-clause-follows c = elim c.match-draw.branch [
-  | in-Ok w ↦ follows_one _ _ _ _ _ _ (Drawn (option_map string_bytes w.in-Ok.text))
-      c.note_draw.ensures refl w.in-Ok.ensures.step
+  | in-Ok w ↦ follows_one _ _ _ _ _ _ (Drawn w.in-Ok.text)
+      c.note_draw.ensures.event refl w.in-Ok.ensures.step
   | in-Err-NoSession w ↦
       let step = rw w.in-Err-NoSession.field-0-is at w.in-Err-NoSession.ensures.step in
-      follows_one _ _ _ _ _ _ NoSession c.note_draw.ensures refl step
+      follows_one _ _ _ _ _ _ NoSession c.note_draw.ensures.event refl step
 ]
 
 pub returns-clause-drew : goal.returns-clause-drew
 returns-clause-drew c = elim c.match-draw.branch [
-  | in-Ok w ↦ rw w.text-is
-      (drew_one _ _ _ _ _ _ (Drawn (option_map string_bytes w.in-Ok.text)) c.note_draw.ensures refl
-      w.in-Ok.ensures.step (given_utf8 w.in-Ok.text))
+  | in-Ok w ↦
+      let utf8 : AllByRecursion IsUtf8 (given w.in-Ok.text) =
+      subst (λ t. AllByRecursion IsUtf8 (given t)) (c.as_ref.ensures.value ∙ w.text-is)
+      c.note_draw.ensures.utf8 in
+      rw w.text-is
+      (drew_one _ _ _ _ _ _ (Drawn w.in-Ok.text) c.note_draw.ensures.event refl
+      w.in-Ok.ensures.step utf8)
   | in-Err-NoSession w ↦
       let step = rw w.in-Err-NoSession.field-0-is at w.in-Err-NoSession.ensures.step in
-      rw w.text-is (drew_one _ _ _ _ _ _ NoSession c.note_draw.ensures refl step tt)
+      rw w.text-is (drew_one _ _ _ _ _ _ NoSession c.note_draw.ensures.event refl step tt)
 ]
 
 pub returns-clause-empty : goal.returns-clause-empty

@@ -1,5 +1,5 @@
 -- Each pass so far drew one text.
-use Rattle.std.proofs.Common.{◌≡◌, ◌+◌, map, length, string_bytes, vec_capacity, Some, []}
+use Rattle.std.proofs.Common.{◌≡◌, ◌+◌, length, vec_capacity, Some, []}
 use Rattle.relay_link.specs.Adds.{Adds, draws}
 use Rattle.relay_link.specs.Follows.{at}
 use Rattle.relay_link.specs.Hears.{Passes}
@@ -8,7 +8,7 @@ use Rattle.relay_link.proofs.visit.draw_texts.Given as goal
 
 abbrev pub invariant-loop : goal.invariant-loop
 invariant-loop l = record {
-  drew : Drew (map string_bytes l.texts.items) (at l.initial.hub (Some l.session) l.initial.events)
+  drew : Drew l.texts.items (at l.initial.hub (Some l.session) l.initial.events)
       (at l.hub (Some l.session) l.events);
   passes : Passes l.initial.events l.events [];
   adds : Adds l.counter 0 l.counter l.initial.events l.events;

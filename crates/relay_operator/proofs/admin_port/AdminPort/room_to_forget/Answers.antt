@@ -1,10 +1,32 @@
--- The connection at the index asks for it.
-use Rattle.std.proofs.Common.{sym, ap, ◌∙◌, Some}
+-- The first that asks for a room to be forgotten names it.
+use Rattle.std.proofs.Common.{sym, ap, ◌∙◌, Some, option_copied}
+use Rattle.relay_operator.specs.RoomRequest.{is_some_of}
+use Rattle.relay_operator.specs.declared.room_request.Kind.TheVariants as kind
+use Rattle.relay_operator.proofs.Giving.{first_asks_not, not_forgotten}
 use Rattle.relay_operator.proofs.admin_port.AdminPort.room_to_forget.Goals as goal
 
-pub returns-in-Forget : goal.returns-in-Forget
-returns-in-Forget g c = (
+pub returns-in_err-room-clause-none : goal.returns-in_err-room-clause-none
+returns-in_err-room-clause-none g c =
+    absurd (first_asks_not kind.Forgetting c.args.self.now.connections.items
+    c.in_ok-first_to.field-0 (sym c.first_to.ensures ∙ c.in_ok-first_to.was)
+    (ap (is_some_of kind.Forgetting)
+    (sym c.asked_at.ensures ∙ ap option_copied c.in_err-room.was)))
+
+pub returns-in-Forget-clause-some : goal.returns-in-Forget-clause-some
+returns-in-Forget-clause-some g c = (
   c.in-Forget.room,
   sym c.as_str.ensures.value,
   (_, sym c.in_ok-room.ensures ∙ ap Some c.in-Forget.is),
 )
+
+pub returns-in_default : goal.returns-in_default
+returns-in_default g c = record {
+  some = tt;
+  first = tt;
+  none =
+      absurd (first_asks_not kind.Forgetting c.args.self.now.connections.items
+      c.in_ok-first_to.field-0 (sym c.first_to.ensures ∙ c.in_ok-first_to.was)
+      (ap (is_some_of kind.Forgetting)
+      (sym c.asked_at.ensures ∙ ap option_copied c.in_ok-room.was)
+      ∙ not_forgotten c.in_ok-room.field-0.now c.in_default.not-Forget));
+}

@@ -1,8 +1,9 @@
--- Whoever stands in no line may be skipped in either.
+-- Whoever stands in no line may be skipped in any.
 use Rattle.std.proofs.Common.{◌∙◌, sym, ap}
 use Rattle.relay_schedule.specs.Ready.{stands}
 use Rattle.relay_schedule.specs.Representation.{lines_of}
-use Rattle.relay_schedule.proofs.Lines.{lines_with_skipped_credited, lines_with_skipped_owing}
+use Rattle.relay_schedule.proofs.Lines.{lines_with_skipped_credited, lines_with_skipped_light}
+use Rattle.relay_schedule.proofs.Lines.{lines_with_skipped_heavy}
 use Rattle.relay_schedule.proofs.ready_queue.ReadyQueue.skip.Goals as goal
 
 pub invariant_of-self : goal.invariant_of-self
@@ -10,11 +11,18 @@ invariant_of-self c =
     let none = ap (stands c.args.key) c.self.view_is ∙ sym c.contains.ensures
     ∙ c.if-contains.false in
     rw c.skip.ensures
-    (lines_with_skipped_owing c.args.key (lines_of c.self.inside) none c.self.invariant)
+    (lines_with_skipped_credited c.args.key (lines_of c.self.inside) none c.self.invariant)
 
-pub invariant_of-self-else-owes : goal.invariant_of-self-else-owes
-invariant_of-self-else-owes c =
+pub invariant_of-self-then-credit : goal.invariant_of-self-then-credit
+invariant_of-self-then-credit c =
     let none = ap (stands c.args.key) c.self.view_is ∙ sym c.contains.ensures
     ∙ c.if-contains.false in
-    rw c.skip-else-owes.ensures
-    (lines_with_skipped_credited c.args.key (lines_of c.self.inside) none c.self.invariant)
+    rw c.skip-then-credit.ensures
+    (lines_with_skipped_heavy c.args.key (lines_of c.self.inside) none c.self.invariant)
+
+pub invariant_of-self-else-credit : goal.invariant_of-self-else-credit
+invariant_of-self-else-credit c =
+    let none = ap (stands c.args.key) c.self.view_is ∙ sym c.contains.ensures
+    ∙ c.if-contains.false in
+    rw c.skip-else-credit.ensures
+    (lines_with_skipped_light c.args.key (lines_of c.self.inside) none c.self.invariant)

@@ -1,0 +1,4 @@
+pub mod ViewOrder
+pub mod Sessions
+pub mod Audiences
+pub mod Table
