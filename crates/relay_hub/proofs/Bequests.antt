@@ -95,11 +95,12 @@ module _ (b : HubConfig) (E : Log) (old : State) (w : Will) (wills : List Will) 
       (trimmed_stands b (ds ++ d ∷ []) notified b.history_weight (λ all. all) room))
       (λ t apart. refl) (λ t apart. refl)
       (λ t t_at. rw step.3
-      (notified_session b b.max_waiting_patches ds d g.room notified changes was room (documents E)
+      (notified_session b b.max_waiting_patches ds d g.room notified was room (documents E)
       (documents (e ∷ E)) name (session_in g.sessions t) (session_in h.sessions t) (home E t)
       (watching b E t)
-      refl (newer d makes) (each_notified g.room.document changes notified b.telling_weight
-      g.sessions h.sessions short step.2 t) (session_stands b E old t r stands t_at)))
+      refl (newer d makes) (each_notified g.room.document changes notified b.waiting_weight
+      b.telling_weight g.sessions h.sessions short step.2 t) (session_stands b E old t r stands
+      t_at)))
   will_stands (Err fault) refuses step =
       room_and_wills_change b E e old r h stands elsewhere (λ other apart.
       refl) wills rest have quiet

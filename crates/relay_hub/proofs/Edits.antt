@@ -3,17 +3,16 @@
 use Rattle.std.proofs.Common.{◌≡◌, ℕ, ◌-◌, Bool, true, false, List, [], ◌∷◌, ◌++◌, length, Option}
 use Rattle.std.proofs.Common.{Some, None, refl, sym, ◌∙◌, ap, arith}
 use Rattle.std.specs.Result.{result_ok}
-use Rattle.relay_patch.specs.declared.change.Change.{Change}
 use Rattle.relay_patch.specs.declared.op.Op.{Op}
 use Rattle.relay_view.specs.View.{View}
 use Rattle.relay_room.specs.Edit.{edited_at, edited}
 use Rattle.relay_room.specs.Room.{State as Room, revision}
+use Rattle.relay_room.specs.declared.catch_up.CatchUp.{CatchUp}
 use Rattle.relay_tree.specs.Document.{Document}
-use Rattle.relay_hub.specs.Allowance.{Allowance}
 use Rattle.relay_hub.specs.Log.{Watching, Stay, present_of, next_document}
 use Rattle.relay_hub.specs.Session.{Session}
 use Rattle.relay_hub.specs.Stands.{RoomStands, OutboxStands, WatchStands, SessionStands}
-use Rattle.relay_hub.specs.Step.{telling_within, NotifiedView, NotifiedAs}
+use Rattle.relay_hub.specs.Step.{NotifiedView, NotifiedAs}
 use Rattle.relay_hub.specs.declared.config.HubConfig.{HubConfig}
 use Rattle.relay_hub.proofs.Follow.{folded_follows, notified_follows}
 use Rattle.relay_hub.proofs.Notified.{IsNotified}
@@ -32,48 +31,47 @@ same_edit most ds room base patch h =
 
 -- the room had some documents and has one more, of which its watchers are notified
 module _ {from : ℕ} (most : HubConfig) (k : ℕ) (ds : List Document) (d : Document)
-    (room next : Room) (changes : List Change) (was : RoomStands most from ds room)
+    (room next : Room) (was : RoomStands most from ds room)
     (is : RoomStands most from (ds ++ d ∷ []) next) where
-  notified_view : (allowance : Allowance) (short : Bool) (x y : Session) (w : Watching)
-      → NotifiedView room.document changes next allowance w.view short x y → OutboxStands k x
+  notified_view : (update : CatchUp) (short : Bool) (x y : Session) (w : Watching)
+      → NotifiedView room.document next update w.view short x y → OutboxStands k x
       → WatchStands ds room x (Some w)
       → ((y.access ≡ x.access) × (y.will ≡ x.will)) × OutboxStands k y
       × WatchStands (ds ++ d ∷ []) next y (Some w)
-  notified_view allowance true x y w notified contents watch =
+  notified_view update true x y w notified contents watch =
       rw notified.1 (
         (refl, refl),
         outbox_folded k x x.view contents,
         (watch.0, folded_follows most ds d w room next was is x.outbox watch.1),
       )
-  notified_view allowance false x y w notified contents watch =
-      let up = telling_within allowance x.budget changes next w.view in
+  notified_view update false x y w notified contents watch =
       rw notified.0 (
         (refl, refl),
-        outbox_notified k (revision next) up x is.is.history.last notified.2 contents,
+        outbox_notified k (revision next) update x is.is.history.last notified.2 contents,
         (
           watch.0,
-          notified_follows most ds d w room next was is x.budget x.outbox up notified.1
+          notified_follows most ds d w room next was is x.budget x.outbox update notified.1
               watch.1,
         ),
       )
 
-  notified_stands : (allowance : Allowance) (v : Option View) (short : Bool) (x y : Session)
+  notified_stands : (updates : View → CatchUp) (v : Option View) (short : Bool) (x y : Session)
       (w : Option Watching) → x.view ≡ v
-      → NotifiedAs room.document changes next allowance v short x y
+      → NotifiedAs room.document next updates v short x y
       → OutboxStands k x → WatchStands ds room x w
       → ((y.access ≡ x.access) × (y.will ≡ x.will)) × OutboxStands k y
       × WatchStands (ds ++ d ∷ []) next y w
-  notified_stands allowance (Some v) short x y (Some w) e notified contents watch =
-      let same : v ≡ w.view =
-      cc in notified_view allowance short x y w (rw same at notified) contents watch
-  notified_stands allowance None short x y None e notified contents watch =
+  notified_stands updates (Some v) short x y (Some w) e notified contents watch =
+      let same : v ≡ w.view = cc in
+      notified_view (updates w.view) short x y w (rw same at notified) contents watch
+  notified_stands updates None short x y None e notified contents watch =
       rw notified.0 ((refl, refl), contents, watch)
-  notified_stands allowance _ short x y _ e notified contents watch = absurd (cc (e, watch.0))
+  notified_stands updates _ short x y _ e notified contents watch = absurd (cc (e, watch.0))
 
   pub notified_session : (before later : List ℕ
       → List Document) (name : List ℕ) (o p : Option Session) (there : Option Stay)
       (w : Option Watching) → before name ≡ ds → later name ≡ ds ++ d ∷ []
-      → IsNotified room.document changes next o p → SessionStands k before name room o there w
+      → IsNotified room.document next o p → SessionStands k before name room o there w
       → SessionStands k later name next p there w
   notified_session before later name (Some x) (Some y) there w had has notified h =
       let s =
@@ -81,4 +79,4 @@ module _ {from : ℕ} (most : HubConfig) (k : ℕ) (ds : List Document) (d : Doc
       (rw had at h.2) in
       (rw (s.0.0, s.0.1) h.0, s.1, rw has s.2)
   notified_session before later name None None there w had has notified h = h
-  notified_session before later name _ _ there w had has notified h = absurd notified
+  notified_session before later name _ _ there w had has notified h = absurd notified.2

@@ -55,7 +55,7 @@ use Rattle.relay_hub.proofs.Lists.{slice_get-set_other, slice_get-earlier, slice
 use Rattle.relay_hub.proofs.Floors.{floor_count}
 use Rattle.relay_hub.proofs.Forgetting.{idle, absent, fault_is}
 use Rattle.relay_hub.proofs.Rooms.{Vacant, vacant}
-use Rattle.relay_hub.proofs.Notified.{each_notified, none_notified, some_notified, once_notified}
+use Rattle.relay_hub.proofs.Notified.{each_notified, none_notified, some_notified, once_same}
 use Rattle.relay_hub.proofs.Wills.{have_more, have_set, have_left, few_left}
 
 -- each session is in no room but its own
@@ -234,20 +234,18 @@ edit_keeps config s short id x patch (Ok d) old new e h =
     let mid = room_sessions room h.2 in
     let answered = keeps_only s x (replied (Done id (revision room)) x) old mid e h.3 in
     let notified =
-    each_notified before changes room config.telling_weight h.2 new.sessions short h.4 in
+    each_notified before changes room config.waiting_weight config.telling_weight h.2 new.sessions
+    short h.4 in
     record {
       none =
           λ t none.
-          none_notified before changes room (session_in h.2 t) (session_in new.sessions t)
-          (notified t) (answered.none t none);
+          none_notified before room (session_in h.2 t) (session_in new.sessions t) (notified t)
+          (answered.none t none);
       some = λ t z is.
           let there = some_one (session_in h.2 t) (answered.some t z is) in
-          some_notified before changes room (session_in h.2 t) (session_in new.sessions t) there.0
+          some_notified before room (session_in h.2 t) (session_in new.sessions t) there.0
           (notified t) there.1;
-      once =
-          λ once.
-          once_notified before changes room config.telling_weight h.2 new.sessions short h.4
-          (answered.once once);
+      once = λ once. once_same h.2 new.sessions h.4.same (answered.once once);
     }
 
 resume_keeps : (present past : Bool) (id rev s : ℕ) (pointers : View) (x : Session)
@@ -687,22 +685,18 @@ will_keeps config patch (Ok d) short old new h =
     let changes = all_changes before patch in
     let room = h.0 in
     let notified =
-    each_notified before changes room config.telling_weight old.sessions new.sessions short
-    h.2 in
+    each_notified before changes room config.waiting_weight config.telling_weight old.sessions
+    new.sessions short h.2 in
     record {
       none =
           λ t none.
-          none_notified before changes room (session_in old.sessions t) (session_in new.sessions t)
+          none_notified before room (session_in old.sessions t) (session_in new.sessions t)
           (notified t) none;
       some =
           λ t x is.
-          some_notified before changes room (session_in old.sessions t) (session_in new.sessions t)
-          x (notified t) is;
-      once =
-          λ once.
-          once_notified before changes room config.telling_weight old.sessions new.sessions short
-          h.2
-          once;
+          some_notified before room (session_in old.sessions t) (session_in new.sessions t) x
+          (notified t) is;
+      once = once_same old.sessions new.sessions h.2.same;
     }
 
 -- what is done in a room leaves the wills

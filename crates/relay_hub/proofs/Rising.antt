@@ -9,27 +9,20 @@ use Rattle.std.proofs.lemmas.Bool.{cases_lt}
 use Rattle.std.proofs.lemmas.Bool.Decides.{nat_tests}
 use Rattle.std.proofs.lemmas.List.{get_or_append_left, get_or_push, length_push, map-append}
 use Rattle.std.proofs.lemmas.List.Kept.{AllPairs-from_increasing, IsStrictlyIncreasing-filter}
-use Rattle.relay_patch.specs.declared.change.Change.{Change}
-use Rattle.relay_room.specs.Room.{State as Room}
-use Rattle.relay_tree.specs.Document.{Document}
-use Rattle.relay_tree.specs.declared.budget.Budget.{Budget}
-use Rattle.relay_hub.specs.Allowance.{Allowance, whole}
 use Rattle.relay_hub.specs.Session.{Session}
 use Rattle.relay_hub.specs.State.{EachOnce, IsRising, numbers, is_number, session_in}
-use Rattle.relay_hub.specs.Step.{after_notified, NotifiedFrom, AllNotified}
 use Rattle.relay_hub.proofs.Sessions.{none_there}
-use Rattle.relay_hub.proofs.Notified.{notified_number}
 
 -- Numbers that rise.
 
 pairs : (xs : List Session) → IsRising xs → AllPairs (λ m n. m < n) (numbers xs)
 pairs xs h = AllPairs-from_increasing (numbers xs) h
 
-pub rest_rises : (x : Session) (xs : List Session) → IsRising (x ∷ xs) → IsRising xs
+rest_rises : (x : Session) (xs : List Session) → IsRising (x ∷ xs) → IsRising xs
 rest_rises x xs h k within =
     pairs (x ∷ xs) h (suc k) (suc (k + 1)) 0 (omega arith) (omega (arith, within))
 
-pub first_below : (x : Session) (xs : List Session) → IsRising (x ∷ xs) → (k : ℕ)
+first_below : (x : Session) (xs : List Session) → IsRising (x ∷ xs) → (k : ℕ)
     → k < length (numbers xs) → x.number < get_or (numbers xs) k 0
 first_below x xs h k within = pairs (x ∷ xs) h 0 (suc k) 0 (omega arith) (omega (arith, within))
 
@@ -57,24 +50,6 @@ pub numbers_set : (xs : List Session) (i : ℕ) (y d : Session) → y.number ≡
 numbers_set [] i y d e = refl
 numbers_set (x ∷ xs) zero y d e = ap (λ n. n ∷ numbers xs) e
 numbers_set (x ∷ xs) (suc i) y d e = ap (λ ns. x.number ∷ ns) (numbers_set xs i y d e)
-
-numbers_from : (d : Document) (changes : List Change) (room : Room) (allowance rest : Allowance)
-    (xs ys : List Session) (n : ℕ) → NotifiedFrom d changes room allowance rest xs ys n
-    → numbers ys ≡ numbers xs
-numbers_from d changes room allowance rest [] [] n h = refl
-numbers_from d changes room allowance rest (x ∷ xs) (y ∷ ys) n h =
-    let first : y.number ≡ x.number = notified_number d changes room allowance x.view h.0 x y h.2 in
-    let others : numbers ys ≡ numbers xs =
-    numbers_from d changes room (after_notified changes room allowance x.view h.0 x) rest
-    xs ys h.1 h.4 in
-    λ i. first i ∷ others i
-numbers_from d changes room allowance rest _ _ n h = absurd h
-
-pub numbers_notified : (d : Document) (changes : List Change) (room : Room) (budget : Budget)
-    (xs ys : List Session) (n : ℕ) → AllNotified d changes room budget xs ys n
-    → numbers ys ≡ numbers xs
-numbers_notified d changes room budget xs ys n h =
-    numbers_from d changes room (whole budget) h.0 xs ys n h.1
 
 -- A session is removed.
 

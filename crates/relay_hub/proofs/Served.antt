@@ -339,11 +339,11 @@ module _ (b : HubConfig) (E : Log) (old : State) (s : ℕ) (mine : Home old s) (
         )
         (λ apart. session_stands b E old t mine.room stands t_at)) in
         rw (same_home at_home.0 t, same_watching at_home.0 t, step.5)
-        (notified_session b b.max_waiting_patches ds d g.room notified changes was room
+        (notified_session b b.max_waiting_patches ds d g.room notified was room
         (documents E) (documents (e ∷ E)) mine.room.name (session_in step.2 t)
         (session_in h.sessions t) (home E t) (watching b E t)
-        refl newer (each_notified g.room.document changes notified b.telling_weight step.2
-        h.sessions short step.4 t) answered))
+        refl newer (each_notified g.room.document changes notified b.waiting_weight
+        b.telling_weight step.2 h.sessions short step.4 t) answered))
 
     pub served_edit : (o : Result Document EditFault) → edited g.room base patch ≡ o
         → ((fault : EditFault) (r : Reply) → o ≡ Err fault → edit_refusal id fault ≡ Some r

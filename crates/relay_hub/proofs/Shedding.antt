@@ -6,11 +6,11 @@ use Rattle.std.specs.List.{position_or_len}
 use Rattle.std.specs.Option.{option_map_or}
 use Rattle.std.proofs.lemmas.List.{length-map}
 use Rattle.std.proofs.lemmas.Option.{slice_get-map}
+use Rattle.relay_audience.specs.declared.audience.Audience.{Audience}
 use Rattle.relay_outbox.specs.Outbox.{Contents}
 use Rattle.relay_patch.specs.declared.op.Op.{Op}
 use Rattle.relay_proto.specs.declared.reply.Reply.{Reply}
 use Rattle.relay_room.specs.Room.{State as Room, trimmed}
-use Rattle.relay_translate.specs.Watches.{Watches}
 use Rattle.relay_tree.specs.Document.{Document}
 use Rattle.relay_tree.specs.declared.budget.Budget.{Budget}
 use Rattle.relay_tree.specs.declared.budget.Budget.TheVariants.{Unbounded}
@@ -22,7 +22,7 @@ use Rattle.relay_hub.specs.Stands.{RoomStands, OutboxStands, WatchStands, Sessio
 use Rattle.relay_hub.specs.Stands.{RoomSessionsStand, HomeStands, Follows, named_will, StandsFor}
 use Rattle.relay_hub.specs.State.{RoomSessions, State, EachOnce, IsHub, numbers, index_of}
 use Rattle.relay_hub.specs.State.{index_named, session_in}
-use Rattle.relay_hub.specs.Watched.{IsIndexed}
+use Rattle.relay_hub.specs.Watched.{AreAudiencesOf}
 use Rattle.relay_hub.specs.declared.config.HubConfig.{HubConfig}
 use Rattle.relay_hub.specs.declared.will.Will.{Will}
 use Rattle.relay_hub.proofs.Documents.{trimmed_stands}
@@ -52,9 +52,9 @@ shed_numbers : (xs : List Session) → numbers (map shed_session xs) ≡ numbers
 shed_numbers [] = refl
 shed_numbers (x ∷ xs) = ap (λ ns. x.number ∷ ns) (shed_numbers xs)
 
-pub shed_indexed : (w : Watches) (xs : List Session) → IsIndexed w xs
-    → IsIndexed w (map shed_session xs)
-shed_indexed w xs h = record {
+pub shed_agrees : (audiences : List Audience) (xs : List Session) → AreAudiencesOf audiences xs
+    → AreAudiencesOf audiences (map shed_session xs)
+shed_agrees audiences xs h = record {
   rising = same_rises xs (map shed_session xs) (shed_numbers xs) h.rising;
   agrees = λ t. h.agrees t
       ∙ same_view (session_in xs t) (session_in (map shed_session xs) t) (shed_found xs t);

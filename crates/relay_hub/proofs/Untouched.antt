@@ -1,39 +1,47 @@
--- A session that an edit does not touch is not notified.
-use Rattle.std.proofs.Common.{◌≡◌, ℕ, ◌-◌, ◌<◌, ◌==◌, Bool, true, false, nat_eq, List, [], ◌∷◌}
-use Rattle.std.proofs.Common.{Option, Some, None, Ok, refl, sym, ap, ◌∙◌, subst, arith, nat_lt}
-use Rattle.std.proofs.Common.{if◌then◌else◌}
+-- A session that an edit does not touch is notified of nothing; so if those that it touches are
+-- notified, all are.
+use Rattle.std.proofs.Common.{◌≡◌, ℕ, ◌-◌, ◌<◌, ◌==◌, Bool, true, false, cond, nat_eq, List, []}
+use Rattle.std.proofs.Common.{◌∷◌, Option, Some, None, Ok, refl, sym, ap, ◌∙◌, ◌||◌, subst, arith}
+use Rattle.std.proofs.Common.{take}
+use Rattle.std.proofs.Common.{length, ◌≤◌, option_map}
 use Rattle.std.specs.List.{list_any}
-use Rattle.std.specs.FinMap as map
+use Rattle.std.proofs.Math.Bool.{or-true}
 use Rattle.std.proofs.lemmas.Bool.Decides.{nat_tests}
-use Rattle.relay_history.specs.History.{Reaches, oldest, changes_since}
+use Rattle.relay_audience.specs.Audiences.{numbered, slots_at, IsAudiences}
+use Rattle.relay_audience.specs.Audiences.{OthersStay}
+use Rattle.relay_audience.specs.ViewOrder.{same_view}
+use Rattle.relay_audience.specs.declared.audience.Audience.{Audience}
+use Rattle.relay_audience.proofs.Laws.{audience_of}
+use Rattle.relay_audience.proofs.Views.{view_itself}
+use Rattle.relay_history.specs.History.{Past, Reaches, in_order, changes_since}
+use Rattle.relay_outbox.specs.Outbox.{Contents}
+use Rattle.relay_patch.specs.After.{after}
 use Rattle.relay_patch.specs.Change.{Leads}
 use Rattle.relay_patch.specs.Patch.{free}
-use Rattle.relay_patch.specs.After.{after}
 use Rattle.relay_patch.specs.declared.change.Change.{Change}
 use Rattle.relay_patch.specs.declared.op.Op.{Op}
-use Rattle.relay_room.specs.CatchUp.{caught_up, patch_or_nothing}
+use Rattle.relay_proto.specs.declared.reply.Reply.{Reply}
+use Rattle.relay_room.specs.Newest.{newest_changes, newest_of}
 use Rattle.relay_room.specs.Room.{State as Room, revision}
-use Rattle.relay_room.specs.Watched.{OthersMissNothing}
 use Rattle.relay_room.specs.declared.catch_up.CatchUp.TheVariants.{Nothing}
-use Rattle.relay_translate.specs.Translate.{local}
-use Rattle.relay_translate.specs.Watches.{Watches}
-use Rattle.relay_translate.proofs.Slots.{translation}
 use Rattle.relay_room.proofs.Missed.{afforded_none}
+use Rattle.relay_translate.specs.Translate.{local}
+use Rattle.relay_translate.specs.Watches.{slots_of}
+use Rattle.relay_translate.proofs.Slots.{translation}
 use Rattle.relay_tree.specs.Document.{Document}
 use Rattle.relay_tree.specs.declared.budget.Budget.{Budget}
-use Rattle.relay_outbox.specs.Outbox.{Contents}
-use Rattle.relay_proto.specs.declared.reply.Reply.{Reply}
-use Rattle.relay_patch.specs.declared.op.Op.{Op}
 use Rattle.relay_view.specs.View.{View, view}
-use Rattle.relay_hub.specs.Allowance.{Allowance, within}
-use Rattle.relay_hub.specs.Session.{Session}
-use Rattle.relay_hub.specs.State.{EachOnce, session_in}
-use Rattle.relay_hub.specs.Session.{with_outbox, notified_outbox}
-use Rattle.relay_hub.specs.Step.{NotifiedView, NotifiedAs, Notified, after_notified, NotifiedFrom}
+use Rattle.relay_hub.specs.Allowance.{left_for, smaller}
+use Rattle.relay_hub.specs.Session.{Session, notified_outbox, with_outbox}
+use Rattle.relay_hub.specs.State.{session_in}
+use Rattle.relay_hub.specs.Step.{making, telling, AllNotified, NotifiedAs, NotifiedIn, NotifiedView}
+use Rattle.relay_hub.specs.Telling.{is_one_of, is_some_of, named, updates_with, views_of}
+use Rattle.relay_hub.specs.Telling.{with_first, NotifiedIf, ToldThose}
+use Rattle.relay_hub.specs.Watched.{view_in, AreAudiencesOf}
+use Rattle.relay_hub.proofs.Audiences.{shown}
 use Rattle.relay_hub.proofs.Waiting.{by_due}
-use Rattle.relay_hub.specs.Watched.{IsIndexed, NotifiedIf, after_if, NotifiedAmong}
-use Rattle.relay_hub.proofs.Cases.{by_number}
-use Rattle.relay_hub.proofs.Rising.{once_rising}
+
+-- ---- an edit that does not touch a view
 
 -- an outbox that is notified of nothing is unchanged, whether a snapshot is due or not
 unnotified_outbox : (budget : Budget) (rev : ℕ) (o : Contents Reply (ℕ × List Op))
@@ -41,115 +49,147 @@ unnotified_outbox : (budget : Budget) (rev : ℕ) (o : Contents Reply (ℕ × Li
 unnotified_outbox budget rev o =
     by_due (λ p. p ≡ o) budget rev Nothing o (λ due. refl) (λ due. refl)
 
-no_operation : (ops : List Op) → patch_or_nothing ops ≡ Nothing → ops ≡ []
-no_operation [] h = refl
-no_operation (op ∷ ops) h = absurd (cc h)
-
-module _ (room : Room) (d : Document) (changes : List Change) (edited : 0 < revision room)
-    (reaches : Reaches room.history (revision room - 1))
-    (since : changes ≡ changes_since (revision room - 1) room.history)
+module _ (room : Room) (d : Document) (changes : List Change)
     (leads : Leads d changes room.document) where
-  -- a session that misses nothing has no operation to receive
-  none_notified : (v : View) → caught_up room (revision room - 1) v ≡ Nothing
-      → local changes room.document v ≡ []
-  none_notified v missed =
-      let held : nat_lt (revision room - 1) (oldest room.history) ≡ false =
-      grind (arith, nat_tests, reaches.back) in
-      no_operation (local changes room.document v) (rw since (rw held at missed))
-
-  same_view : (v : View) → local changes room.document v ≡ [] → view v d ≡ view v room.document
-  same_view v none =
+  unseen : (v : View) → local changes room.document v ≡ [] → view v d ≡ view v room.document
+  unseen v none =
       let after_none : after (view v d) [] free ≡ Ok (view v room.document) =
       subst (λ ops. after (view v d) ops free
       ≡ Ok (view v room.document)) none (translation changes room.document v d leads) in
       cc after_none
 
-  quiet_view : (allowance : Allowance) (v : View) (x : Session)
-      → caught_up room (revision room - 1) v ≡ Nothing
-      → NotifiedView d changes room allowance v false x x
-  quiet_view allowance v x missed =
-      let none = none_notified v missed in
-      rw (none, afforded_none (within allowance v x.budget)) (
-        ap (λ o.
-            with_outbox o x) (sym (unnotified_outbox x.budget (revision room) x.outbox)),
-        same_view v none,
+  quiet_view : (budget : Budget) (v : View) (x : Session) → local changes room.document v ≡ []
+      → NotifiedView d room (telling budget changes room v) v false x x
+  quiet_view budget v x none =
+      rw (none, afforded_none budget) (
+        ap (λ o. with_outbox o x) (sym (unnotified_outbox x.budget (revision room) x.outbox)),
+        unseen v none,
         tt,
       )
 
-  -- and nothing is made for it
-  quiet_left : (allowance : Allowance) (v : View) (x : Session)
-      → caught_up room (revision room - 1) v ≡ Nothing
-      → after_notified changes room allowance (Some v) false x ≡ allowance
-  quiet_left allowance v x missed =
-      rw (none_notified v missed, afforded_none (within allowance v x.budget)) (go x.outbox.due)
+  module _ (most total rest : Budget) (views : List View) (xs ys : List Session) (n : ℕ)
+      (told : ToldThose d room (making most changes room) total rest views xs ys n)
+      (others : (t : ℕ) (v : View) → view_in xs t ≡ Some v → is_one_of views v ≡ false
+      → local changes room.document v ≡ []) where
+    abbrev given : View → Budget
+    given = left_for (making most changes room) total told.made
+
+    quiet_as : (o : Option View) (x : Session)
+        → ((v : View) → o ≡ Some v → local changes room.document v ≡ [])
+        → NotifiedAs d room (updates_with (making most changes room) given) o false x x
+    quiet_as (Some v) x none = quiet_view (smaller most (given v)) v x (none v refl)
+    quiet_as None x none = (refl, refl)
+
+    quiet_in : (o : Option Session)
+        → ((v : View) → shown o ≡ Some v → local changes room.document v ≡ [])
+        → NotifiedIn d room (updates_with (making most changes room) given) false o o
+    quiet_in (Some x) none = quiet_as x.view x none
+    quiet_in None none = tt
+
+    either : (b short : Bool) (o p : Option Session)
+        → (b ≡ false → (v : View) → shown o ≡ Some v → local changes room.document v ≡ [])
+        → NotifiedIf b d room (updates_with (making most changes room) given) short o p
+        → NotifiedIn d room (updates_with (making most changes room) given) short o p
+    either true short o p quiet h = h
+    either false short o p quiet h = rw (h.0, h.1) (quiet_in o (quiet refl))
+
+    outside : (t : ℕ) → is_some_of views (view_in xs t) ≡ false → (v : View)
+        → view_in xs t ≡ Some v → local changes room.document v ≡ []
+    outside t none v has = others t v has (rw has at none)
+
+    -- whoever watches a view of which the edit changes nothing is notified by nothing
+    pub all_told : AllNotified d changes room most total xs ys n
+    all_told = record {
+      made = told.made;
+      short = told.short;
+      count = told.count;
+      same = told.same;
+      each =
+          λ t.
+          either (is_some_of views (view_in xs t)) (list_any (nat_eq t) told.short)
+          (session_in xs t) (session_in ys t) (outside t)
+          (told.each t given (λ v there. refl));
+    }
+
+-- ---- which views are told
+
+-- the view of each audience
+pub watched_there : (audiences : List Audience) (n : ℕ) (a : Audience)
+    → numbered n audiences ≡ Some a → is_one_of (views_of audiences) a.view ≡ true
+watched_there [] n a at = cc
+watched_there (b ∷ audiences) n a at = go (b.number == n) at (watched_there audiences n a)
+  where
+    go : (c : Bool) → cond c (Some b) (numbered n audiences) ≡ Some a
+        → (numbered n audiences ≡ Some a → is_one_of (views_of audiences) a.view ≡ true)
+        → (same_view a.view b.view || is_one_of (views_of audiences) a.view) ≡ true
+    go true is rest = let same : b ≡ a = cc in rw (same, view_itself a.view) refl
+    go false is rest = rw (rest is) (or-true (same_view a.view b.view))
+
+-- the view of each audience with one of the numbers
+pub named_there : (audiences : List Audience) (n : ℕ) (a : Audience) (ns : List ℕ)
+    → numbered n audiences ≡ Some a → list_any (nat_eq n) ns ≡ true
+    → is_one_of (views_of (named audiences ns)) a.view ≡ true
+named_there audiences n a [] at among = cc
+named_there audiences n a (m ∷ ns) at among =
+    go (nat_eq n m) refl (numbered m audiences) refl among (named_there audiences n a ns at)
+  where
+    go : (c : Bool) → nat_eq n m ≡ c → (o : Option Audience) → numbered m audiences ≡ o
+        → (c || list_any (nat_eq n) ns) ≡ true
+        → (list_any (nat_eq n) ns ≡ true
+        → is_one_of (views_of (named audiences ns)) a.view ≡ true)
+        → is_one_of (views_of (with_first o (named audiences ns))) a.view ≡ true
+    go true is o there h rest =
+        let same : n ≡ m = grind (arith, nat_tests, is) in
+        let found : o ≡ Some a = sym there ∙ (ap (λ k. numbered k audiences) (sym same) ∙ at) in
+        rw (found, view_itself a.view) refl
+    go false is None there h rest = rest h
+    go false is (Some b) there h rest = rw (rest h) (or-true (same_view a.view b.view))
+
+module _ (audiences : List Audience) (apart : IsAudiences audiences) (xs : List Session)
+    (agree : AreAudiencesOf audiences xs) (t : ℕ) (v : View) (has : view_in xs t ≡ Some v) where
+  watching : (a : Audience) × (numbered a.number audiences ≡ Some a)
+      × (a.view ≡ v)
+  watching =
+      let some = audience_of t v audiences apart.rising (agree.agrees t ∙ has) in
+      (some.0, some.1, some.3)
+
+  -- no view of a session is left out
+  pub not_outside : is_one_of (views_of audiences) v ≡ false → ⊥
+  not_outside none =
+      let a = watching in
+      let there : is_one_of (views_of audiences) v ≡ true =
+      rw a.2 at (watched_there audiences a.0.number a.0 a.1) in
+      cc (none, there)
+
+  -- of one that is left out an edit changes nothing
+  pub quiet_outside : (changes : List Change) (ns : List ℕ) → OthersStay changes audiences ns
+      → is_one_of (views_of (named audiences ns)) v ≡ false → (now : Document)
+      → local changes now v ≡ []
+  quiet_outside changes ns others none now =
+      let a = watching in
+      let slots : slots_at audiences a.0.number ≡ v =
+      ap (λ o. slots_of (option_map (λ (b : Audience). b.view) o)) a.1 ∙ a.2 in
+      subst (λ u. local changes now u ≡ []) slots
+      (others a.0.number now (unnamed (list_any (nat_eq a.0.number) ns) refl))
     where
-      go : (due : Bool) → (if due then allowance else allowance) ≡ allowance
-      go true = refl
-      go false = refl
+      unnamed : (b : Bool) → list_any (nat_eq watching.0.number) ns ≡ b
+          → list_any (nat_eq watching.0.number) ns ≡ false
+      unnamed true is =
+          let there : is_one_of (views_of (named audiences ns)) v ≡ true =
+          rw watching.2 at
+          (named_there audiences watching.0.number watching.0 ns watching.1 is) in
+          cc (none, there)
+      unnamed false is = is
 
-  module _ (w : Watches) (numbers : List ℕ) (others : OthersMissNothing room w numbers) where
-    misses : (v : View) (x : Session) → map.get w x.number ≡ Some v
-        → list_any (nat_eq x.number) numbers ≡ false
-        → caught_up room (revision room - 1) v ≡ Nothing
-    misses v x has absent =
-        others x.number (revision room - 1) v has absent (omega (arith, edited)) reaches
+-- ---- the changes of the newest revision
 
-    quiet_as : (allowance : Allowance) (o : Option View) (x : Session) → map.get w x.number ≡ o
-        → list_any (nat_eq x.number) numbers ≡ false
-        → NotifiedAs d changes room allowance o false x x
-        × (after_notified changes room allowance o false x ≡ allowance)
-    quiet_as allowance (Some v) x has absent =
-        let missed = misses v x has absent in
-        (quiet_view allowance v x missed, quiet_left allowance v x missed)
-    quiet_as allowance None x has absent = ((refl, refl), refl)
-
-    notified_either : (b : Bool) (allowance : Allowance) (short : Bool) (x y : Session)
-        → list_any (nat_eq x.number) numbers ≡ b → map.get w x.number ≡ x.view
-        → NotifiedIf b d changes room allowance short x y
-        → Notified d changes room allowance short x y
-        × (after_if b changes room allowance short x
-        ≡ after_notified changes room allowance x.view short x)
-    notified_either true allowance short x y named has h = (h, refl)
-    notified_either false allowance short x y named has h =
-        let quiet = quiet_as allowance x.view x has named in rw (h.0, h.1) (quiet.0, sym quiet.1)
-
-    abbrev Has : List Session → Type 0
-    Has xs = (t : ℕ) (z : Session) → session_in xs t ≡ Some z → map.get w t ≡ z.view
-
-    first_has : (x : Session) (xs : List Session) → Has (x ∷ xs) → map.get w x.number ≡ x.view
-    first_has x xs has =
-        let same : (x.number == x.number) ≡ true = grind (arith, nat_tests) in
-        has x.number x (rw same refl)
-
-    rest_have : (x : Session) (xs : List Session) → session_in xs x.number ≡ None → Has (x ∷ xs)
-        → Has xs
-    rest_have x xs once has t z is =
-        has t z (by_number (λ t b. session_in xs t ≡ Some z
-        → (if b then Some x else session_in xs t) ≡ Some z) x.number t
-        (λ here. absurd (cc (once, here))) (λ other there. there) is)
-
-    all_of_them : (allowance rest : Allowance) (xs ys : List Session) (n : ℕ) → EachOnce xs
-        → Has xs → NotifiedAmong numbers d changes room allowance rest xs ys n
-        → NotifiedFrom d changes room allowance rest xs ys n
-    all_of_them allowance rest [] [] n once has h = h
-    all_of_them allowance rest (x ∷ xs) (y ∷ ys) n once has h =
-        let notified =
-        notified_either (list_any (nat_eq x.number) numbers) allowance h.0 x y refl
-        (first_has x xs has) h.2 in (
-          h.0,
-          h.1,
-          notified.0,
-          h.3,
-          all_of_them (after_notified changes room allowance x.view h.0 x) rest xs ys h.1 once.1
-              (rest_have x xs once.0 has)
-              (subst (λ a. NotifiedAmong numbers d changes room a rest xs ys h.1) notified.1 h.4),
-        )
-    all_of_them allowance rest _ _ n once has h = absurd h
-
-    -- if the sessions that the index names are notified, all are
-    pub among_all : (allowance rest : Allowance) (xs ys : List Session) (n : ℕ) → IsIndexed w xs
-        → NotifiedAmong numbers d changes room allowance rest xs ys n
-        → NotifiedFrom d changes room allowance rest xs ys n
-    among_all allowance rest xs ys n indexed h =
-        all_of_them allowance rest xs ys n (once_rising xs indexed.rising) (λ t z is.
-        indexed.agrees t ∙ rw is refl) h
+pub newest_since : (past : Past) → 0 < past.newest → Reaches past (past.newest - 1)
+    → newest_changes past ≡ changes_since (past.newest - 1) past
+newest_since past made reaches =
+    let one : past.newest - (past.newest - 1) ≡ 1 = omega (arith, made) in
+    rw one (go past.changes reaches.back)
+  where
+    go : (changes : List (List Change)) → past.newest - length changes ≤ past.newest - 1
+        → newest_of changes ≡ in_order (take 1 changes)
+    go [] back = absurd (omega (arith, made, back))
+    go (newest ∷ older) back = refl

@@ -1,6 +1,6 @@
 -- Calls as events: what each one answers, when it is a step, and runs of steps.
 use Rattle.std.specs.Prelude.{◌≡◌, ℕ, ◌<◌, ◌≤◌, length, List, [], ◌∷◌, Option, Some, None}
-use Rattle.std.specs.Prelude.{option_map, Result, Ok, Err, slice_get}
+use Rattle.std.specs.Prelude.{Result, Ok, Err, slice_get}
 use Rattle.std.specs.Global.{Vec}
 use Rattle.std.specs.declared.alloc.AllocError.{AllocError}
 use Rattle.relay_outbox.specs.declared.outbox.TheConstants.{MAX_REPLIES}

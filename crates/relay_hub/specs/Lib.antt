@@ -9,13 +9,13 @@ pub mod EncodedPatch
 pub mod Session
 pub mod SnapshotText
 pub mod Load
+pub mod Allowance
 pub mod Update
 pub mod Caller
 pub mod Log
-pub mod Allowance
 pub mod Step
-pub mod CachedUpdate
 pub mod Watched
+pub mod Telling
 pub mod Queries
 pub mod Memory
 pub mod Summary

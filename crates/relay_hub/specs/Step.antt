@@ -2,7 +2,8 @@
 -- unchanged.
 use Rattle.std.specs.Prelude.{ℕ, ◌≡◌, ◌+◌, ◌<◌, ◌==◌, Bool, true, false, List, [], ◌∷◌, ◌++◌}
 use Rattle.std.specs.Prelude.{Option, Some, None, option_map, Result, Ok, Err, length}
-use Rattle.std.specs.Prelude.{option_and_then, slice_get, slice_set, nat_lt, nat_le, not}
+use Rattle.std.specs.Prelude.{option_and_then, slice_get, slice_set, nat_lt, nat_le, nat_eq, not, ⊤}
+use Rattle.std.specs.List.{list_any}
 use Rattle.std.specs.Prelude.{if◌then◌else◌}
 use Rattle.relay_history.specs.History.{with_revision}
 use Rattle.relay_outbox.specs.Outbox.{folded}
@@ -48,13 +49,14 @@ use Rattle.relay_hub.specs.declared.fault.OpenFault.{OpenFault}
 use Rattle.relay_hub.specs.declared.fault.OpenFault.TheVariants.{RoomName, RoomsFull, SessionsFull}
 use Rattle.relay_hub.specs.declared.fault.OpenFault.TheVariants.{Exhausted}
 use Rattle.relay_hub.specs.Admitted.{admitted}
-use Rattle.relay_hub.specs.Allowance.{Allowance, whole, within, after_update}
+use Rattle.relay_hub.specs.Allowance.{Making, smaller, update_for}
 use Rattle.relay_hub.specs.Refusal.{refused, edit_refusal, future_refusal}
 use Rattle.relay_hub.specs.Session.{Session, with_outbox, replied, newcomer, leaves_will, watches}
 use Rattle.relay_hub.specs.Session.{unwatches, resumes, notified_outbox, front_message}
 use Rattle.relay_hub.specs.Session.{message_text, ReadsBack, drawn}
 use Rattle.relay_hub.specs.State.{RoomSessions, room_sessions, State, EachOnce, index_of}
 use Rattle.relay_hub.specs.State.{index_named, vacant_in, floor_at, is_crowded, session_in}
+use Rattle.relay_hub.specs.State.{numbers}
 
 -- Within a room.
 
@@ -82,65 +84,59 @@ abbrev pub telling : Budget → List Change → Room → View → CatchUp
 telling budget changes room pointers =
     patch_or_snapshot (afforded budget (local changes room.document pointers))
 
--- what the edit means to a view that a session with this budget watches, within the allowance
-abbrev pub telling_within : Allowance → Budget → List Change → Room → View → CatchUp
-telling_within allowance budget changes room pointers =
-    telling (within allowance pointers budget) changes room pointers
+-- the update that is made for a view when the patches for this edit may still weigh that much, and
+-- those that wait for a session this much
+abbrev pub making : Budget → List Change → Room → Making
+making most changes room left pointers = telling (smaller most left) changes room pointers
 
--- a watcher is notified of an edit in one of three ways: its outbox is unchanged, if no change
--- touches a slot of its view, or if a snapshot is due already; a patch that brings its view to the
--- new one is added, or a snapshot is due in place of one that is too heavy or one too many; or the
--- outbox folds because memory ran out, and counts as short
-abbrev pub NotifiedView : Document → List Change → Room → Allowance → View → Bool → Session
-    → Session → Type 0
-NotifiedView d changes room allowance pointers true x y =
+-- a watcher is notified of an edit by an update for its view in one of three ways: its outbox is
+-- unchanged, if the update is none, or if a snapshot is due already; the patch that brings its view
+-- to the new one is added, or a snapshot is due in place of one that is too heavy or one too many;
+-- or the outbox folds because memory ran out, and counts as short
+abbrev pub NotifiedView : Document → Room → CatchUp → View → Bool → Session → Session → Type 0
+NotifiedView d room update pointers true x y =
     (x.outbox.due ≡ false) × (y ≡ with_outbox (folded x.outbox) x)
-NotifiedView d changes room allowance pointers false x y =
-    (y
-    ≡ with_outbox (notified_outbox x.budget (revision room)
-    (telling_within allowance x.budget changes room pointers) x.outbox) x)
-    × MakesPresent room pointers d (telling_within allowance x.budget changes room pointers)
-    × Fits (telling_within allowance x.budget changes room pointers)
+NotifiedView d room update pointers false x y =
+    (y ≡ with_outbox (notified_outbox x.budget (revision room) update x.outbox) x)
+    × MakesPresent room pointers d update × Fits update
 
 -- a session that watches nothing is not notified
-abbrev pub NotifiedAs : Document → List Change → Room → Allowance → Option View → Bool → Session
-    → Session → Type 0
-NotifiedAs d changes room allowance (Some pointers) short x y =
-    NotifiedView d changes room allowance pointers short x y
-NotifiedAs d changes room allowance None short x y = (y ≡ x) × (short ≡ false)
-
-abbrev pub Notified : Document → List Change → Room → Allowance → Bool → Session → Session → Type 0
-Notified d changes room allowance short x y = NotifiedAs d changes room allowance x.view short x y
-
--- the allowance after a session is notified. Nothing is made for one in whose outbox a snapshot is
--- due, nor if memory ran out
-abbrev pub after_notified : List Change → Room → Allowance → Option View → Bool → Session
-    → Allowance
-after_notified changes room allowance (Some pointers) true x = allowance
-after_notified changes room allowance (Some pointers) false x =
-    if x.outbox.due then allowance
-    else after_update allowance pointers
-    (telling_within allowance x.budget changes room pointers)
-after_notified changes room allowance None short x = allowance
-
--- the sessions are notified one after the other, from one allowance to another: each watcher is, no
--- other session changes, and this many outboxes folded because memory ran out
-abbrev pub NotifiedFrom : Document → List Change → Room → Allowance → Allowance → List Session
-    → List Session → ℕ → Type 0
-NotifiedFrom d changes room allowance rest [] [] n = (n ≡ 0) × (rest ≡ allowance)
-NotifiedFrom d changes room allowance rest (x ∷ xs) (y ∷ ys) n =
-    (short : Bool) × (m : ℕ) × Notified d changes room allowance short x y
-    × (n ≡ m + (if short then 1 else 0))
-    × NotifiedFrom d changes room (after_notified changes room allowance x.view short x) rest xs ys
-    m
-NotifiedFrom d changes room allowance rest [] (y ∷ ys) n = ⊥
-NotifiedFrom d changes room allowance rest (x ∷ xs) [] n = ⊥
-
--- all of them, by patches that weigh no more together than the budget
-abbrev pub AllNotified : Document → List Change → Room → Budget → List Session → List Session → ℕ
+abbrev pub NotifiedAs : Document → Room → (View → CatchUp) → Option View → Bool → Session → Session
     → Type 0
-AllNotified d changes room budget xs ys n =
-    (rest : Allowance) × NotifiedFrom d changes room (whole budget) rest xs ys n
+NotifiedAs d room updates (Some pointers) short x y =
+    NotifiedView d room (updates pointers) pointers short x y
+NotifiedAs d room updates None short x y = (y ≡ x) × (short ≡ false)
+
+abbrev pub Notified : Document → Room → (View → CatchUp) → Bool → Session → Session → Type 0
+Notified d room updates short x y = NotifiedAs d room updates x.view short x y
+
+-- a session that is there is notified and stays, and no other comes
+abbrev pub NotifiedIn : Document → Room → (View → CatchUp) → Bool → Option Session → Option Session
+    → Type 0
+NotifiedIn d room updates short (Some x) (Some y) = Notified d room updates short x y
+NotifiedIn d room updates short None None = ⊤
+NotifiedIn d room updates short (Some x) None = ⊥
+NotifiedIn d room updates short None (Some y) = ⊥
+
+-- how many of some numbers are among others
+abbrev pub among : List ℕ → List ℕ → ℕ
+among others [] = 0
+among others (n ∷ ns) = among others ns + (if list_any (nat_eq n) others then 1 else 0)
+
+-- All sessions of a room are notified of an edit, each by the update for its view, and these many
+-- outboxes fold because memory ran out. The patches weigh no more together than `total`, and what
+-- waits for a session no more than `most`.
+pub record AllNotified (d : Document) (changes : List Change) (room : Room) (most total : Budget)
+    (xs ys : List Session) (n : ℕ) : Type 0 where
+  -- the views for which updates were made, in order
+  pub made : List View
+  -- the sessions whose outboxes fold
+  pub short : List ℕ
+  pub count : n ≡ among short (numbers xs)
+  pub same : numbers ys ≡ numbers xs
+  pub each : (t : ℕ)
+      → NotifiedIn d room (update_for (making most changes room) total made)
+      (list_any (nat_eq t) short) (session_in xs t) (session_in ys t)
 
 -- an edit of session s, which is x. If it is accepted: s gets a reply, then all watchers are
 -- notified, and then the room drops what its history may not hold. If it is refused: s gets a
@@ -152,7 +148,7 @@ EditServed config s x id patch (Ok d) short old new =
     × (mid : List Session)
     × OnlyAt s (Some (replied (Done id (revision notified)) x)) old.sessions mid
     × AllNotified old.room.document (all_changes old.room.document patch) notified
-    config.telling_weight mid new.sessions short
+    config.waiting_weight config.telling_weight mid new.sessions short
     × (new.room ≡ trimmed config.history_weight notified)
 EditServed config s x id patch (Err fault) short old new = (short ≡ 0)
     × (r : Reply) × (edit_refusal id fault ≡ Some r) × ChangesOnly s (Some (replied r x)) old new
@@ -163,7 +159,7 @@ abbrev pub WillServed : HubConfig → List Op → Result Document EditFault → 
     → RoomSessions → Type 0
 WillServed config patch (Ok d) short old new = (notified : Room) × GoesOn old.room patch d notified
     × AllNotified old.room.document (all_changes old.room.document patch) notified
-    config.telling_weight old.sessions new.sessions short
+    config.waiting_weight config.telling_weight old.sessions new.sessions short
     × (new.room ≡ trimmed config.history_weight notified)
 WillServed config patch (Err fault) short old new = (short ≡ 0) × (new ≡ old)
 

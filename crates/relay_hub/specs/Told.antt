@@ -17,7 +17,7 @@ abbrev pub ChangesToldAnd : ℕ → Told → List Session → List Session → T
 ChangesToldAnd s told old new =
     (t : ℕ) → (s == t) ≡ false → is_told told t ≡ false → session_in new t ≡ session_in old t
 
--- no session changed but those with these numbers
-abbrev pub ChangesAmong : List ℕ → List Session → List Session → Type 0
-ChangesAmong numbers old new =
-    (t : ℕ) → list_any (nat_eq t) numbers ≡ false → session_in new t ≡ session_in old t
+-- no session changed but those that were told meanwhile, and who was told before still is
+abbrev pub IsTold : Told → Told → List Session → List Session → Type 0
+IsTold before told old new = (t : ℕ) → is_told told t ≡ false
+    → (is_told before t ≡ false) × (session_in new t ≡ session_in old t)

@@ -8,6 +8,8 @@ use Rattle.relay_proto.specs.declared.reply.Reply.{Reply}
 use Rattle.relay_room.specs.declared.catch_up.CatchUp.{CatchUp}
 use Rattle.relay_room.specs.declared.catch_up.CatchUp.TheVariants as caught
 use Rattle.relay_tree.specs.declared.budget.Budget.{Budget}
+use Rattle.relay_patch.specs.Weight.{ops_weight}
+use Rattle.relay_hub.specs.Allowance.{less}
 use Rattle.relay_hub.specs.Session.{with_patch_within}
 use Rattle.relay_hub.specs.declared.update.Update.{Update}
 use Rattle.relay_hub.specs.declared.update.Update.TheVariants.{Nothing, Patch, Snapshot}
@@ -23,6 +25,12 @@ abbrev pub word_of : Update → ResumeOutcome
 word_of Nothing = how.Nothing
 word_of (Patch p) = how.Patch
 word_of Snapshot = how.Snapshot
+
+-- what is left of a budget after an update was made: a patch is paid
+abbrev pub left_of : Update → Budget → Budget
+left_of Nothing left = left
+left_of (Patch p) left = less (ops_weight p.1) left
+left_of Snapshot left = left
 
 -- an outbox after an update, if its patches may weigh as much as a budget pays for
 abbrev pub heard : Budget → Update → Contents Reply (ℕ × List Op) → Contents Reply (ℕ × List Op)

@@ -1,27 +1,31 @@
 //! Notifying the watchers of an edit.
-ghost use Rattle.std.specs.Prelude.{◌≡◌, ◌<◌, ◌-◌, List, is_err, [], ◌∷◌, if◌then◌else◌};
+ghost use Rattle.std.specs.Prelude.{◌≡◌, ◌<◌, ◌-◌, ℕ, List, IfOk, OnOk, Some, IsSome, is_err, true};
 ghost use Rattle.std.specs.List.Sorted.{IsStrictlyIncreasing};
+ghost use Rattle.std.specs.Option.{option_copied};
+ghost use Rattle.relay_audience.specs.Audiences.{AreExact, IsAudiences, OthersStay};
+ghost use Rattle.relay_audience.specs.Sessions.{IsRising as AreRising};
 ghost use Rattle.relay_history.specs.History.{Reaches, changes_since};
 ghost use Rattle.relay_patch.specs.Change.{Leads};
 ghost use Rattle.relay_patch.specs.declared.change.Change.{Change};
+ghost use Rattle.relay_room.specs.Newest.{newest_changes};
 ghost use Rattle.relay_room.specs.Room.{IsRoom, revision, trimmed};
 ghost use Rattle.relay_tree.specs.Document.{Document};
 ghost use Rattle.relay_hub.specs.State.{IsRising};
-ghost use Rattle.relay_hub.specs.CachedUpdate.{IsKept, allowance_of};
-ghost use Rattle.relay_hub.specs.Step.{Notified, after_notified, NotifiedFrom, AllNotified};
-ghost use Rattle.relay_hub.specs.Told.{ChangesAmong, ChangesTold};
-ghost use Rattle.relay_hub.specs.Watched.{IsIndexed, NotifiedAmong};
+ghost use Rattle.relay_hub.specs.Step.{making, AllNotified};
+ghost use Rattle.relay_hub.specs.Telling.{named, views_of, AreDue, AreWatching, Given, GivenTo};
+ghost use Rattle.relay_hub.specs.Telling.{IsAudienceOf, OfNewest, ToldOne, ToldThose};
+ghost use Rattle.relay_hub.specs.Told.{ChangesTold, IsTold};
+ghost use Rattle.relay_hub.specs.Watched.{AreAudiencesOf};
 
-use crate::cached_update::{UpdateCache, update_for};
 use crate::caller::position_of;
 use crate::config::HubConfig;
-use crate::cost;
 use crate::report::Report;
 use crate::session::Session;
+use crate::telling::Telling;
 use crate::told::Told;
 use crate::update::Update;
+use relay_audience::{Audience, Audiences};
 use relay_room::Room;
-use relay_translate::WatchIndex;
 use std::alloc::{AllocError, Global};
 
 /// Notifies the watchers of the newest edit within the hub's bounds, counts the edit, and records
@@ -31,183 +35,210 @@ pub fn broadcast_and_trim(
     alloc: Global,
     config: HubConfig,
     room: &mut Room,
-    watches: &WatchIndex,
+    audiences: &Audiences,
     sessions: &mut [Session],
     report: &mut Report,
 ) -> u64
     requires room { IsRoom room.old }
     requires edited { 0 < revision room.old }
     requires reaches { Reaches room.old.history (revision room.old - 1) }
-    requires indexed { IsIndexed watches.now sessions.old }
+    requires agree { AreAudiencesOf audiences.now sessions.old }
     ensures notified { (d : Document) (changes : List Change)
         → changes ≡ changes_since (revision room.old - 1) room.old.history
         → Leads d changes room.old.document
-        → AllNotified d changes room.old config.telling_weight sessions.old sessions.new result }
+        → AllNotified d changes room.old config.waiting_weight config.telling_weight sessions.old
+        sessions.new result }
     ensures told { ChangesTold report.new.told sessions.old sessions.new }
     ensures trimmed { room.new ≡ trimmed config.history_weight room.old }
 {
-    let mut cache = UpdateCache::new(alloc, config.telling_weight);
-    let short = broadcast(alloc, room, watches, sessions, &mut cache, report);
-    report.cost.add(cache.cost.total());
+    let mut telling = Telling::new(alloc, config);
+    let short = broadcast(alloc, room, audiences, sessions, &mut telling);
+    let Telling { told, cost, .. } = telling;
+    report.told = told;
+    report.cost.add(cost.total());
     report.edits = report.edits.saturating_add(1);
     room.trim(config.history_weight);
     short
 }
 
-/// Notifies the watchers of the newest edit. The index finds the sessions that the edit touches,
-/// and no other is visited. If the look-up runs out of memory, every session is visited. Returns
-/// how many outboxes folded because memory ran out.
+/// Notifies the watchers of the newest edit. Only the audiences that the edit touches are visited;
+/// if memory runs out before they are found, all are. Returns how many outboxes folded because
+/// memory ran out.
 ///
-/// Costs the look-up ([`Room::touched`]); for each session found, a binary search and a comparison
-/// of its view with at most 32 others; and for each whose view is none of these, what the edit
-/// means to it ([`Room::catch_up_within`]) and the text of that. So an update is made and written
-/// once for all sessions that watch the same view, if they watch at most 16 views. No patch is made
-/// that what is left does not pay for.
+/// Costs the look-up ([`Audiences::touched`]); for each audience that is found, what the edit means
+/// to its view, and the text of that ([`Telling::make`]); and for each of its sessions, a binary
+/// search. So an update is made and written once for all sessions that watch the same view.
 fn broadcast(
     alloc: Global,
     room: &Room,
-    watches: &WatchIndex,
+    audiences: &Audiences,
     sessions: &mut [Session],
-    cache: &mut UpdateCache,
-    report: &mut Report,
+    telling: &mut Telling,
 ) -> u64
     requires room { IsRoom room.now }
     requires edited { 0 < revision room.now }
     requires reaches { Reaches room.now.history (revision room.now - 1) }
-    requires indexed { IsIndexed watches.now sessions.old }
-    requires kept { IsKept room.now cache.old }
-    ensures told { ChangesTold report.new.told sessions.old sessions.new }
-    ensures notified { (d : Document) (changes : List Change)
-        → changes ≡ changes_since (revision room.now - 1) room.now.history
-        → Leads d changes room.now.document
-        → NotifiedFrom d changes room.now (allowance_of cache.old) (allowance_of cache.new)
-        sessions.old sessions.new result }
+    requires agree { AreAudiencesOf audiences.now sessions.old }
+    ensures notified { OfNewest room.now (λ d changes. AllNotified d changes room.now
+        telling.old.most telling.old.left sessions.old sessions.new result) }
+    ensures told { ChangesTold telling.new.told sessions.old sessions.new }
 {
-    let Ok(numbers) = room.touched(alloc, watches) else {
-        report.told = Told::everybody(alloc);
-        return notify_all(alloc, room, sessions, cache);
-    };
-    let short = notify_those(alloc, room, sessions, numbers.as_slice(), cache);
-    report.cost.add(cost::telling(numbers.len() as u64));
-    report.told = Told {
-        sessions: numbers,
-        all: false,
-    };
-    short
+    match touched(alloc, room, audiences) {
+        Ok(numbers) => tell_those(
+            alloc,
+            room,
+            audiences,
+            numbers.as_slice(),
+            sessions,
+            telling,
+        ),
+        Err(_) => tell_all(alloc, room, audiences.all(), sessions, telling),
+    }
 }
 
-/// Notifies the sessions with these numbers, which rise.
-fn notify_those(
+/// Returns the numbers of the audiences that the newest edit touches, in the order in which they
+/// came.
+fn touched(alloc: Global, room: &Room, audiences: &Audiences) -> Result<Vec<u64>, AllocError>
+    ensures rising { IfOk result (λ numbers. IsStrictlyIncreasing numbers.items) }
+    ensures others { IfOk result (λ numbers. OthersStay (newest_changes room.now.history)
+        audiences.now numbers.items) }
+    ensures apart { OnOk result (IsAudiences audiences.now) }
+{
+    let changes = room.newest_changes(alloc)?;
+    audiences.touched(alloc, changes.as_slice())
+}
+
+/// Notifies the audiences with these numbers, which rise.
+fn tell_those(
     alloc: Global,
     room: &Room,
-    sessions: &mut [Session],
+    audiences: &Audiences,
     numbers: &[u64],
-    cache: &mut UpdateCache,
+    sessions: &mut [Session],
+    telling: &mut Telling,
 ) -> u64
     requires room { IsRoom room.now }
     requires edited { 0 < revision room.now }
     requires reaches { Reaches room.now.history (revision room.now - 1) }
-    requires ordered { IsRising sessions.old }
+    requires agree { AreAudiencesOf audiences.now sessions.old }
+    requires apart { IsAudiences audiences.now }
+    requires exact { AreExact audiences.now }
     requires rising { IsStrictlyIncreasing numbers.now }
-    requires kept { IsKept room.now cache.old }
-    ensures others { ChangesAmong numbers.now sessions.old sessions.new }
-    ensures notified { (d : Document) (changes : List Change)
-        → changes ≡ changes_since (revision room.now - 1) room.now.history
-        → Leads d changes room.now.document
-        → NotifiedAmong numbers.now d changes room.now (allowance_of cache.old)
-        (allowance_of cache.new) sessions.old sessions.new result }
+    ensures notified { OfNewest room.now (λ d changes. ToldThose d room.now
+        (making telling.old.most changes room.now) telling.old.left telling.new.left
+        (views_of (named audiences.now numbers.now)) sessions.old sessions.new result) }
+    ensures told { IsTold telling.old.told telling.new.told sessions.old sessions.new }
 {
     let mut short: u64 = 0;
     for number in numbers {
-        if notify_one(alloc, room, sessions, *number, cache).is_err() {
-            short += 1;
+        if let Some(audience) = audiences.audience(*number) {
+            short += tell(alloc, room, audience, sessions, telling);
         }
     }
     short
 }
 
-/// Notifies the session with that number, if it is there. If memory runs out, its outbox folds.
-fn notify_one(
+/// Notifies every audience.
+fn tell_all(
     alloc: Global,
     room: &Room,
+    audiences: &[Audience],
     sessions: &mut [Session],
-    number: u64,
-    cache: &mut UpdateCache,
-) -> Result<(), AllocError>
+    telling: &mut Telling,
+) -> u64
+    requires room { IsRoom room.now }
+    requires edited { 0 < revision room.now }
+    requires reaches { Reaches room.now.history (revision room.now - 1) }
+    requires agree { AreAudiencesOf audiences.now sessions.old }
+    requires apart { IsAudiences audiences.now }
+    requires exact { AreExact audiences.now }
+    ensures notified { OfNewest room.now (λ d changes. ToldThose d room.now
+        (making telling.old.most changes room.now) telling.old.left telling.new.left
+        (views_of audiences.now) sessions.old sessions.new result) }
+    ensures told { IsTold telling.old.told telling.new.told sessions.old sessions.new }
+{
+    let mut short: u64 = 0;
+    for audience in audiences {
+        short += tell(alloc, room, audience, sessions, telling);
+    }
+    short
+}
+
+/// Notifies the sessions of an audience. No update is made if a snapshot is due for each of them:
+/// it will show the edit.
+fn tell(
+    alloc: Global,
+    room: &Room,
+    audience: &Audience,
+    sessions: &mut [Session],
+    telling: &mut Telling,
+) -> u64
     requires room { IsRoom room.now }
     requires edited { 0 < revision room.now }
     requires reaches { Reaches room.now.history (revision room.now - 1) }
     requires ordered { IsRising sessions.old }
-    requires kept { IsKept room.now cache.old }
-    ensures kept { IsKept room.now cache.new }
-    ensures ordered { IsRising sessions.new }
-    ensures others { ChangesAmong (number ∷ []) sessions.old sessions.new }
-    ensures notified { (d : Document) (changes : List Change)
-        → changes ≡ changes_since (revision room.now - 1) room.now.history
-        → Leads d changes room.now.document
-        → NotifiedAmong (number ∷ []) d changes room.now (allowance_of cache.old)
-        (allowance_of cache.new) sessions.old sessions.new (if is_err result then 1 else 0) }
+    requires agree { IsAudienceOf audience.now sessions.old }
+    ensures notified { OfNewest room.now (λ d changes. ToldOne d room.now
+        (making telling.old.most changes room.now) telling.old.left telling.new.left
+        audience.now.view sessions.old sessions.new result) }
+    ensures told { IsTold telling.old.told telling.new.told sessions.old sessions.new }
+    ensures most { telling.new.most ≡ telling.old.most }
 {
-    match position_of(sessions, number) {
-        Some(index) => notify(alloc, room, &mut sessions[index], cache),
-        None => Ok(()),
+    let numbers = audience.sessions.as_slice();
+    telling.note(alloc, numbers);
+    if all_due(sessions, numbers) {
+        return 0;
+    }
+    match telling.make(alloc, room, audience.view.get()) {
+        Ok(update) => give(sessions, numbers, Some(&update)),
+        Err(_) => give(sessions, numbers, None),
     }
 }
 
-/// Notifies every watcher of the newest edit.
-fn notify_all(alloc: Global, room: &Room, sessions: &mut [Session], cache: &mut UpdateCache) -> u64
-    requires room { IsRoom room.now }
-    requires edited { 0 < revision room.now }
-    requires reaches { Reaches room.now.history (revision room.now - 1) }
-    requires kept { IsKept room.now cache.old }
-    ensures { (d : Document) (changes : List Change)
-        → changes ≡ changes_since (revision room.now - 1) room.now.history
-        → Leads d changes room.now.document
-        → NotifiedFrom d changes room.now (allowance_of cache.old) (allowance_of cache.new)
-        sessions.old sessions.new result }
+/// Returns true if a snapshot is due for each session with one of these numbers.
+fn all_due(sessions: &[Session], numbers: &[u64]) -> bool
+    requires ordered { IsRising sessions.now }
+    ensures { result ≡ true → AreDue numbers.now sessions.now }
+{
+    for number in numbers {
+        if let Some(index) = position_of(sessions, *number) {
+            if !sessions[index].is_due() {
+                return false;
+            }
+        }
+    }
+    true
+}
+
+/// Gives the sessions with these numbers, which rise, an update, or none if memory ran out for it.
+/// Returns how many outboxes folded because memory ran out.
+fn give(sessions: &mut [Session], numbers: &[u64], update: Option<&Update>) -> u64
+    requires ordered { IsRising sessions.old }
+    requires rising { AreRising numbers.now }
+    requires watch { AreWatching numbers.now sessions.old }
+    ensures { GivenTo (option_copied update.entry) numbers.now sessions.old sessions.new result }
 {
     let mut short: u64 = 0;
-    for session in sessions.iter_mut() {
-        if notify(alloc, room, session, cache).is_err() {
-            short += 1;
+    for number in numbers {
+        if let Some(index) = position_of(sessions, *number) {
+            if give_one(&mut sessions[index], update).is_err() {
+                short += 1;
+            }
         }
     }
     short
 }
 
-/// Notifies one session of the newest edit, if it watches. A snapshot that is due already will show
-/// the edit. If memory runs out, the outbox folds.
-fn notify(
-    alloc: Global,
-    room: &Room,
-    session: &mut Session,
-    cache: &mut UpdateCache,
-) -> Result<(), AllocError>
-    requires room { IsRoom room.now }
-    requires edited { 0 < revision room.now }
-    requires reaches { Reaches room.now.history (revision room.now - 1) }
-    requires kept { IsKept room.now cache.old }
-    ensures kept { IsKept room.now cache.new }
-    ensures number { session.new.number ≡ session.old.number }
-    ensures notified { (d : Document) (changes : List Change)
-        → changes ≡ changes_since (revision room.now - 1) room.now.history
-        → Leads d changes room.now.document
-        → Notified d changes room.now (allowance_of cache.old) (is_err result) session.old
-        session.new }
-    ensures left { (d : Document) (changes : List Change)
-        → changes ≡ changes_since (revision room.now - 1) room.now.history
-        → Leads d changes room.now.document
-        → allowance_of cache.new
-        ≡ after_notified changes room.now (allowance_of cache.old) session.old.view (is_err result)
-        session.old }
+/// Gives a session an update, unless a snapshot is due: it will show the edit. If memory runs out,
+/// the outbox folds.
+fn give_one(session: &mut Session, update: Option<&Update>) -> Result<(), AllocError>
+    requires { IsSome session.old.view }
+    ensures given { Given (option_copied update.entry) (is_err result) session.old session.new }
 {
     if session.is_due() {
         return Ok(());
     }
-    let Some(view) = session.view() else {
-        return Ok(());
-    };
-    match update_for(alloc, room, view, session.budget(), cache) {
+    match shared(update) {
         Ok(update) => {
             session.take_update(update);
             Ok(())
@@ -217,5 +248,15 @@ fn notify(
             session.note_refused_memory();
             Err(AllocError)
         }
+    }
+}
+
+/// The update, shared. `AllocError`: there is none, or it has too many owners.
+fn shared(update: Option<&Update>) -> Result<Update, AllocError>
+    ensures { IfOk result (λ shared. option_copied update.entry ≡ Some shared) }
+{
+    match update {
+        Some(update) => update.share(),
+        None => Err(AllocError),
     }
 }

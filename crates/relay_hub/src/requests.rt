@@ -1,8 +1,6 @@
-//! The work of the hub's calls, on a room, its open sessions and the index of the views that they
-//! watch.
+//! The work of the hub's calls, on a room, its open sessions and their audiences.
 ghost use Rattle.std.specs.Prelude.{◌≡◌, ◌<◌, ◌==◌, Some, None, Ok, IfOk, OnOk, OnErr, IsErrOf};
 ghost use Rattle.std.specs.Prelude.{IsSome, IsSomeAnd, option_map, nat_le, filter, not};
-ghost use Rattle.std.specs.FinMap as map;
 ghost use Rattle.relay_room.specs.Edit.{edited};
 ghost use Rattle.relay_room.specs.Room.{revision};
 ghost use Rattle.relay_hub.specs.Call.{drawing, WillServedIf, DrawsIf, ChangesBy, HasSpace};
@@ -12,37 +10,32 @@ ghost use Rattle.relay_hub.specs.Session.{Session, leaves_will, watches as watch
 ghost use Rattle.relay_hub.specs.Session.{waiting};
 ghost use Rattle.relay_hub.specs.SnapshotText.{IsSnapshotText};
 ghost use Rattle.relay_hub.specs.State.{IsRising, is_number, room_sessions, numbers, session_in};
-ghost use Rattle.relay_hub.specs.Step.{EditServed, WillServed, ResumeServed, Serves, OnlyAt};
+ghost use Rattle.relay_hub.specs.Step.{EditServed, ResumeServed, Serves, OnlyAt};
 ghost use Rattle.relay_hub.specs.Told.{ChangesTold, ChangesToldAnd};
-ghost use Rattle.relay_hub.specs.Watched.{IsIndexed};
+ghost use Rattle.relay_hub.specs.Watched.{AreAudiencesOf};
 
 use crate::asked::Asked;
 use crate::boxed_reply::ReservedReply;
 use crate::broadcast::broadcast_and_trim;
-use crate::caller::{Caller, position_of, session_at, session_mut};
+use crate::caller::{Caller, session_at, session_mut};
 use crate::config::HubConfig;
 use crate::cost;
 use crate::fault::HubFault;
 use crate::message_counts::MessageCounts;
 use crate::report::Report;
 use crate::session::Session;
-use crate::shared_view::SharedView;
 use crate::snapshot_text::SnapshotText;
 use crate::text_size::TextSize;
 use crate::told::Told;
 use crate::update::Update;
 use bytes::ByteStr;
+use relay_audience::Audiences;
 use relay_history::ReservedRevision;
 use relay_patch::{Cause, Patch};
 use relay_proto::{Refusal, Reply, Request, Word};
 use relay_room::{CatchFault, CatchUp, EditFault, Room};
-use relay_translate::WatchIndex;
 use relay_view::View;
 use std::alloc::{AllocError, Global};
-
-/// The number of a room's sessions that are looked at for an equal view when one begins to watch.
-/// Those that watch the same view often come one after the other.
-const NEWEST: usize = 16;
 
 /// Does what a session asks, and writes down whom it told something. Adds exactly one reply to the
 /// session's outbox. Returns how many outboxes folded because memory ran out.
@@ -50,14 +43,14 @@ pub fn answer(
     alloc: Global,
     config: HubConfig,
     room: &mut Room,
-    watches: &mut WatchIndex,
+    audiences: &mut Audiences,
     sessions: &mut [Session],
     asked: Asked,
     report: &mut Report,
 ) -> Result<u64, AllocError>
     requires caller { IsCaller sessions.old asked.caller }
     requires space { HasSpace sessions.old asked.caller.number }
-    requires indexed { IsIndexed watches.old sessions.old }
+    requires agree { AreAudiencesOf audiences.old sessions.old }
     ensures ok { IfOk result (λ short. (x : Session)
         → session_in sessions.old asked.caller.number ≡ Some x
         → Serves config asked.caller.number x asked.request short
@@ -65,7 +58,7 @@ pub fn answer(
     ensures told { ChangesToldAnd asked.caller.number report.new.told sessions.old sessions.new }
     ensures err { OnErr result (room_sessions room.new sessions.new
         ≡ room_sessions room.old sessions.old) }
-    ensures indexed { IsIndexed watches.new sessions.new }
+    ensures agree { AreAudiencesOf audiences.new sessions.new }
 {
     let (caller, reserved, size) = (asked.caller, asked.reserved, asked.size);
     match asked.request {
@@ -78,18 +71,18 @@ pub fn answer(
                 base,
                 patch,
             };
-            edit(alloc, config, room, watches, sessions, asked, report)
+            edit(alloc, config, room, audiences, sessions, asked, report)
         }
         Ok(Request::Will { id, patch }) => {
-            leave_will(watches, sessions, caller, reserved, id, patch);
+            leave_will(audiences, sessions, caller, reserved, id, patch);
             Ok(0)
         }
         Ok(Request::Watch { id, view }) => {
-            watch(alloc, watches, sessions, caller, reserved, id, view)?;
+            watch(alloc, audiences, sessions, caller, reserved, id, view)?;
             Ok(0)
         }
         Ok(Request::Unwatch { id }) => {
-            unwatch(watches, sessions, caller, reserved, id);
+            unwatch(audiences, sessions, caller, reserved, id);
             Ok(0)
         }
         Ok(
@@ -108,7 +101,7 @@ pub fn answer(
                 rev,
                 view,
             };
-            resume(alloc, config.epoch, room, watches, sessions, asked)?;
+            resume(alloc, config.epoch, room, audiences, sessions, asked)?;
             Ok(0)
         }
         Err(refusal) => {
@@ -147,14 +140,14 @@ fn edit(
     alloc: Global,
     config: HubConfig,
     room: &mut Room,
-    watches: &WatchIndex,
+    audiences: &Audiences,
     sessions: &mut [Session],
     asked: AskedEdit,
     report: &mut Report,
 ) -> Result<u64, AllocError>
     requires caller { IsCaller sessions.old asked.caller }
     requires space { HasSpace sessions.old asked.caller.number }
-    requires indexed { IsIndexed watches.now sessions.old }
+    requires agree { AreAudiencesOf audiences.now sessions.old }
     ensures ok { IfOk result (λ short. (x : Session)
         → session_in sessions.old asked.caller.number ≡ Some x
         → EditServed config asked.caller.number x asked.id asked.patch
@@ -163,7 +156,7 @@ fn edit(
     ensures told { ChangesToldAnd asked.caller.number report.new.told sessions.old sessions.new }
     ensures err { OnErr result (room_sessions room.new sessions.new
         ≡ room_sessions room.old sessions.old) }
-    ensures indexed { IsIndexed watches.now sessions.new }
+    ensures agree { AreAudiencesOf audiences.now sessions.new }
 {
     let AskedEdit {
         caller,
@@ -182,7 +175,7 @@ fn edit(
                 .cost
                 .add(cost::editing(&patch, Some(size), weight, changed));
             session_mut(sessions, caller).reply(reserved, Reply::Done { id, rev });
-            Ok(broadcast_and_trim(alloc, config, room, watches, sessions, report))
+            Ok(broadcast_and_trim(alloc, config, room, audiences, sessions, report))
         }
         Err(fault) => {
             report.cost.add(cost::refusing(&patch, fault, weight));
@@ -201,16 +194,16 @@ pub fn do_will(
     alloc: Global,
     config: HubConfig,
     room: &mut Room,
-    watches: &WatchIndex,
+    audiences: &Audiences,
     sessions: &mut [Session],
     patch: &Patch,
     report: &mut Report,
 ) -> Result<u64, AllocError>
-    requires indexed { IsIndexed watches.now sessions.old }
+    requires agree { AreAudiencesOf audiences.now sessions.old }
     ensures done { WillServedIf config patch.now result (room_sessions room.old sessions.old)
         (room_sessions room.new sessions.new) }
     ensures told { ChangesTold report.new.told sessions.old sessions.new }
-    ensures indexed { IsIndexed watches.now sessions.new }
+    ensures agree { AreAudiencesOf audiences.now sessions.new }
 {
     report.told = Told::nobody(alloc);
     let kept = ReservedRevision::new(alloc)?;
@@ -219,7 +212,7 @@ pub fn do_will(
         Ok(_) => {
             let changed = room.history_weight().saturating_sub(held);
             report.cost.add(cost::editing(patch, None, weight, changed));
-            Ok(broadcast_and_trim(alloc, config, room, watches, sessions, report))
+            Ok(broadcast_and_trim(alloc, config, room, audiences, sessions, report))
         }
         Err(EditFault::Apply(fault)) if fault.cause == Cause::NoMemory => Err(AllocError),
         Err(fault) => {
@@ -266,7 +259,7 @@ fn word_of(cause: Cause) -> Option<Word>
 
 /// Leaves a will, in place of the one that was left before.
 fn leave_will(
-    watches: &WatchIndex,
+    audiences: &Audiences,
     sessions: &mut [Session],
     caller: Caller,
     reserved: ReservedReply,
@@ -275,9 +268,9 @@ fn leave_will(
 )
     requires caller { IsCaller sessions.old caller }
     requires space { HasSpace sessions.old caller.number }
-    requires indexed { IsIndexed watches.now sessions.old }
+    requires agree { AreAudiencesOf audiences.now sessions.old }
     ensures leaves { ChangesBy caller.number (leaves_will id patch) sessions.old sessions.new }
-    ensures indexed { IsIndexed watches.now sessions.new }
+    ensures agree { AreAudiencesOf audiences.now sessions.new }
 {
     session_mut(sessions, caller).leave_will(reserved, id, patch);
 }
@@ -285,7 +278,7 @@ fn leave_will(
 /// Watches the view from now on, and makes a snapshot due.
 fn watch(
     alloc: Global,
-    watches: &mut WatchIndex,
+    audiences: &mut Audiences,
     sessions: &mut [Session],
     caller: Caller,
     reserved: ReservedReply,
@@ -294,20 +287,21 @@ fn watch(
 ) -> Result<(), AllocError>
     requires caller { IsCaller sessions.old caller }
     requires space { HasSpace sessions.old caller.number }
-    requires indexed { IsIndexed watches.old sessions.old }
+    requires agree { AreAudiencesOf audiences.old sessions.old }
     ensures ok { OnOk result
         (ChangesBy caller.number (watching id view) sessions.old sessions.new) }
     ensures err { OnErr result (sessions.new ≡ sessions.old) }
-    ensures indexed { IsIndexed watches.new sessions.new }
+    ensures agree { AreAudiencesOf audiences.new sessions.new }
 {
-    let view = put_view(alloc, watches, sessions, caller.number, view)?;
+    let former = session_at(sessions, caller).view();
+    let view = audiences.watch(alloc, caller.number, former, view)?;
     session_mut(sessions, caller).watch(reserved, id, view);
     Ok(())
 }
 
 /// Watches nothing from now on.
 fn unwatch(
-    watches: &mut WatchIndex,
+    audiences: &mut Audiences,
     sessions: &mut [Session],
     caller: Caller,
     reserved: ReservedReply,
@@ -315,11 +309,13 @@ fn unwatch(
 )
     requires caller { IsCaller sessions.old caller }
     requires space { HasSpace sessions.old caller.number }
-    requires indexed { IsIndexed watches.old sessions.old }
+    requires agree { AreAudiencesOf audiences.old sessions.old }
     ensures unwatches { ChangesBy caller.number (unwatches id) sessions.old sessions.new }
-    ensures indexed { IsIndexed watches.new sessions.new }
+    ensures agree { AreAudiencesOf audiences.new sessions.new }
 {
-    watches.take_out(caller.number);
+    if let Some(view) = session_at(sessions, caller).view() {
+        audiences.unwatch(caller.number, view);
+    }
     session_mut(sessions, caller).unwatch(reserved, id);
 }
 
@@ -329,19 +325,19 @@ fn resume(
     alloc: Global,
     epoch: u64,
     room: &Room,
-    watches: &mut WatchIndex,
+    audiences: &mut Audiences,
     sessions: &mut [Session],
     asked: AskedResume,
 ) -> Result<(), AllocError>
     requires caller { IsCaller sessions.old asked.caller }
     requires space { HasSpace sessions.old asked.caller.number }
-    requires indexed { IsIndexed watches.old sessions.old }
+    requires agree { AreAudiencesOf audiences.old sessions.old }
     ensures ok { OnOk result ((x : Session) → session_in sessions.old asked.caller.number ≡ Some x
         → ResumeServed (asked.epoch == epoch) (nat_le asked.rev (revision room.now)) asked.id
         asked.rev asked.view asked.caller.number x (room_sessions room.now sessions.old)
         (room_sessions room.now sessions.new)) }
     ensures err { OnErr result (sessions.new ≡ sessions.old) }
-    ensures indexed { IsIndexed watches.new sessions.new }
+    ensures agree { AreAudiencesOf audiences.new sessions.new }
 {
     let AskedResume {
         caller,
@@ -369,41 +365,10 @@ fn resume(
         CatchUp::Snapshot
     };
     let update = Update::of(alloc, room.revision(), how)?;
-    let view = put_view(alloc, watches, sessions, caller.number, view)?;
+    let former = session_at(sessions, caller).view();
+    let view = audiences.watch(alloc, caller.number, former, view)?;
     session_mut(sessions, caller).resume(reserved, id, view, update);
     Ok(())
-}
-
-/// Puts the view of a session into the index. Returns the view for the session to hold.
-fn put_view(
-    alloc: Global,
-    watches: &mut WatchIndex,
-    sessions: &[Session],
-    number: u64,
-    view: View,
-) -> Result<SharedView, AllocError>
-    ensures view { IfOk result (λ shared. shared ≡ view) }
-    ensures ok { OnOk result (watches.new ≡ map.insert watches.old number view) }
-    ensures err { OnErr result (watches.new ≡ watches.old) }
-{
-    let shared = shared_view(alloc, sessions, view)?;
-    watches.put(alloc, number, shared.get())?;
-    Ok(shared)
-}
-
-/// A view for a session to hold. It is shared with the first of the room's newest sessions that
-/// watches an equal one, and otherwise new. The views are compared token by token.
-fn shared_view(alloc: Global, sessions: &[Session], view: View) -> Result<SharedView, AllocError>
-    ensures { IfOk result (λ shared. shared ≡ view) }
-{
-    let first = sessions.len().saturating_sub(NEWEST);
-    for session in &sessions[first..] {
-        match session.view() {
-            Some(shared) if shared.get().same(&view) => return shared.share(),
-            _ => {}
-        }
-    }
-    SharedView::new(alloc, view)
 }
 
 /// Removes and returns the text at the front of the outbox of a session that is there, and counts
@@ -435,16 +400,19 @@ pub fn draw(
     }
 }
 
-/// Removes a session that is there, and its view from the index. Returns what it leaves behind.
-pub fn remove(sessions: &mut Vec<Session>, watches: &mut WatchIndex, number: u64) -> Patch
+/// Removes a session that is there, from its audience too. Returns what it leaves behind.
+pub fn remove(sessions: &mut Vec<Session>, audiences: &mut Audiences, number: u64) -> Patch
     requires there { IsSome (session_in sessions.old.items number) }
-    requires indexed { IsIndexed watches.old sessions.old.items }
+    requires agree { AreAudiencesOf audiences.old sessions.old.items }
     ensures gone { OnlyAt number None sessions.old.items sessions.new.items }
     ensures will { (x : Session) → session_in sessions.old.items number ≡ Some x → result ≡ x.will }
-    ensures indexed { IsIndexed watches.new sessions.new.items }
+    ensures agree { AreAudiencesOf audiences.new sessions.new.items }
 {
-    watches.take_out(number);
-    take_session(sessions, number).into_will()
+    let session = take_session(sessions, number);
+    if let Some(view) = session.view() {
+        audiences.unwatch(number, view);
+    }
+    session.into_will()
 }
 
 /// Removes and returns the session with that number, which is there. The later ones move down.

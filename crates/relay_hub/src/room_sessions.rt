@@ -1,5 +1,4 @@
-//! A room with its open sessions, and an index of the views that they watch, by which an edit finds
-//! the sessions that it touches.
+//! A room with its open sessions, and their audiences, by which an edit finds whom it touches.
 ghost use Rattle.std.specs.Prelude.{◌≡◌};
 ghost use Rattle.relay_tree.specs.Document.{saturated};
 ghost use Rattle.relay_hub.specs.Queries.{sessions_weight};
@@ -18,22 +17,22 @@ use crate::snapshot_text::SnapshotText;
 use crate::told::Told;
 use crate::{cost, requests};
 use bytes::ByteStr;
+use relay_audience::Audiences;
 use relay_limits::MAX_COUNT;
 use relay_patch::Patch;
 use relay_room::{Room, RoomFault};
-use relay_translate::WatchIndex;
 use relay_tree::{Budget, Node, Scratch, Tree};
 use std::alloc::{AllocError, Global};
 use std::marker::Model;
 
 /// A room with its sessions in the order in which they were opened, so that their numbers rise and
-/// one is found by a binary search. Contracts see the room and the sessions, but neither the index,
-/// which has the view of each session that watches, nor the text that is kept of a snapshot.
+/// one is found by a binary search. Contracts see the room and the sessions, but neither the
+/// audiences, which have each session that watches, nor the text that is kept of a snapshot.
 #[derive(Drop)]
 pub struct RoomSessions {
     room: Room,
     sessions: Vec<Session>,
-    watches: WatchIndex,
+    audiences: Audiences,
     /// The text of the present snapshot. It is dropped before the room may change.
     snapshot: SnapshotText,
 }
@@ -43,7 +42,7 @@ impl Model for RoomSessions {
     ghost use Rattle.relay_hub.specs.contracts.session.Session as session;
     ghost use Rattle.relay_hub.specs.SnapshotText.{IsSnapshotText};
     ghost use Rattle.relay_hub.specs.State.{RoomSessions, room_sessions, room_sessions_code};
-    ghost use Rattle.relay_hub.specs.Watched.{IsIndexed};
+    ghost use Rattle.relay_hub.specs.Watched.{AreAudiencesOf};
 
     ghost Value = { RoomSessions };
 
@@ -51,7 +50,7 @@ impl Model for RoomSessions {
 
     ghost view = { λ g. room_sessions g.room g.sessions.items };
 
-    ghost invariant = { λ g. IsIndexed g.watches g.sessions.items
+    ghost invariant = { λ g. AreAudiencesOf g.audiences g.sessions.items
         × IsSnapshotText g.room g.snapshot };
 }
 
@@ -79,11 +78,11 @@ impl RoomSessions {
     {
         let mut sessions = Vec::with_capacity(alloc, 1)?;
         sessions.push(first)?;
-        let watches = WatchIndex::new(alloc);
+        let audiences = Audiences::new(alloc);
         Ok(RoomSessions {
             room,
             sessions,
-            watches,
+            audiences,
             snapshot: SnapshotText::none(),
         })
     }
@@ -173,7 +172,7 @@ impl RoomSessions {
         ensures will { (x : Session) → session_in self.old.sessions number ≡ Some x
             → result ≡ x.will }
     {
-        requests::remove(&mut self.sessions, &mut self.watches, number)
+        requests::remove(&mut self.sessions, &mut self.audiences, number)
     }
 
     /// Does the will of a session that is closed ([`requests::do_will`]). `AllocError` changes
@@ -193,7 +192,7 @@ impl RoomSessions {
             alloc,
             config,
             &mut self.room,
-            &self.watches,
+            &self.audiences,
             self.sessions.as_mut_slice(),
             patch,
             report,
@@ -293,7 +292,7 @@ impl RoomSessions {
             alloc,
             config,
             &mut self.room,
-            &mut self.watches,
+            &mut self.audiences,
             self.sessions.as_mut_slice(),
             asked,
             report,

@@ -7,8 +7,8 @@ ghost use Rattle.relay_hub.specs.SnapshotText.{IsSnapshotText, kept_bytes, kept_
 
 use crate::cost;
 use crate::message_counts::MessageCounts;
-use crate::shared_view::SharedView;
 use bytes::ByteStr;
+use relay_audience::SharedView;
 use relay_proto::{Refusal, Request, shown_text};
 use relay_room::Room;
 use std::alloc::{AllocError, Global};

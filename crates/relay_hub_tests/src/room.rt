@@ -1,13 +1,16 @@
 //! Tests of rooms: how they start, the last revision, and each call once. What edits do to a
 //! document, and what a client missed, is data in `tests/scripts`.
+ghost use Rattle.std.specs.Prelude.{◌≡◌, IfOk};
+ghost use Rattle.relay_audience.specs.Audiences.{view_of};
+
 use crate::shared::{Came, number, owned, patch_of, repeated, tree_of, view_of, words};
+use relay_audience::{Audiences, SharedView};
 use relay_history::ReservedRevision;
 use relay_patch::Patch;
 use relay_room::{CatchFault, CatchUp, Room, RoomFault};
 use relay_test_stream::{Subject, cut, play};
-use relay_translate::WatchIndex;
 use relay_tree::{Node, Tree};
-use std::alloc::{AllocGlobal, Global};
+use std::alloc::{AllocError, AllocGlobal, Global};
 
 /// `start-nested 65 0 64` starts a room with lists that are 65 deep, at revision 0, and with a
 /// history of 64 revisions; `start-long` with a text of so many bytes. The last revision is
@@ -60,11 +63,11 @@ edit - [] => Ok(7): {"a":1,"b":[3,2]}
 concerned => []
 "#;
 
-/// A room, and the views of its sessions.
+/// A room, and the audiences of its sessions.
 #[derive(Drop)]
 struct WatchedRoom {
     room: Room,
-    watched: WatchIndex,
+    audiences: Audiences,
 }
 
 impl<R: AllocGlobal> Subject<R> for WatchedRoom {
@@ -78,8 +81,8 @@ impl<R: AllocGlobal> Subject<R> for WatchedRoom {
             "start-long" => self.start_long(alloc, rest),
             "edit" => edit(alloc, &mut self.room, rest),
             "missed" => missed(alloc, &self.room, rest),
-            "watch" => watch(alloc, &mut self.watched, rest),
-            "concerned" => concerned(alloc, &self.room, &self.watched),
+            "watch" => watch(alloc, &mut self.audiences, rest),
+            "concerned" => concerned(alloc, &self.room, &self.audiences),
             _ => None,
         }
     }
@@ -161,23 +164,41 @@ fn missed_in_words(alloc: Global, missed: Result<CatchUp, CatchFault>) -> Came {
     }
 }
 
-fn watch(alloc: Global, watched: &mut WatchIndex, rest: &str) -> Came {
+fn watch(alloc: Global, audiences: &mut Audiences, rest: &str) -> Came {
     let (session, view) = cut(rest);
-    let view = view_of(alloc, view)?;
-    watched.put(alloc, number(session)?, &view).ok()?;
+    let (session, view) = (number(session)?, view_of(alloc, view)?);
+    let former = former(audiences, session).ok()?;
+    audiences.watch(alloc, session, former.as_ref(), view).ok()?;
     owned(alloc, "")
 }
 
-/// The sessions that the newest revision touches.
-fn concerned(alloc: Global, room: &Room, watched: &WatchIndex) -> Came {
-    words(alloc, room.touched(alloc, watched).ok()?)
+fn former(audiences: &Audiences, session: u64) -> Result<Option<SharedView>, AllocError>
+    ensures { IfOk result (λ former. former ≡ view_of session audiences.now) }
+{
+    match audiences.view_of(session) {
+        Some(view) => Ok(Some(view.share()?)),
+        None => Ok(None),
+    }
+}
+
+/// The sessions that the newest revision touches, in the order of their numbers.
+fn concerned(alloc: Global, room: &Room, audiences: &Audiences) -> Came {
+    let changes = room.newest_changes(alloc).ok()?;
+    let mut sessions = Vec::new(alloc);
+    for audience in audiences.touched(alloc, changes.as_slice()).ok()? {
+        for session in audiences.audience(audience)?.sessions.as_slice() {
+            sessions.push(*session).ok()?;
+        }
+    }
+    sessions.sort_unstable();
+    words(alloc, sessions)
 }
 
 #[test]
 fn keeps_a_document_and_its_changes(rt: HostRuntime) {
     let mut room = WatchedRoom {
         room: Room::new(rt.alloc(), 1).expect(&rt, "a room"),
-        watched: WatchIndex::new(rt.alloc()),
+        audiences: Audiences::new(rt.alloc()),
     };
     play(&rt, &mut room, ROWS).expect(&rt, "each row holds");
 }

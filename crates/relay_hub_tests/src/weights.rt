@@ -116,6 +116,24 @@ draw 1 => {"kind":"snapshot","rev":2,"view":[[{"x":1}]]}
 draw 3 => {"kind":"patch","patch":[{"op":"replace","path":"/0","value":[1]}],"rev":2}
 draw 4 => {"kind":"patch","patch":[{"op":"replace","path":"/0","value":[1]}],"rev":2}
 
+# Who is told first: views are told in the order in which they began to be watched, whatever the numbers of the sessions are. So the
+# one that is watched anew comes last.
+new telling-weight=59
+watching
+open r => Ok(3)
+say 3 {"do":"watch","id":1,"view":["/x"]} => Ok(Answered { short: 0 })
+draw 3 => {"epoch":1,"kind":"welcome","rev":1,"session":3}
+draw 3 => {"id":1,"kind":"watching"}
+draw 3 => {"kind":"snapshot","rev":1,"view":[[]]}
+say 1 {"do":"unwatch","id":2} => Ok(Answered { short: 0 })
+say 1 {"do":"watch","id":3,"view":[""]} => Ok(Answered { short: 0 })
+draw 1 => {"id":2,"kind":"unwatched"}
+draw 1 => {"id":3,"kind":"watching"}
+draw 1 => {"kind":"snapshot","rev":1,"view":[[{}]]}
+say 2 {"do":"edit","id":2,"patch":[{"op":"add","path":"/x","value":1}]} => Ok(Answered { short: 0 })
+draw 1 => {"kind":"snapshot","rev":2,"view":[[{"x":1}]]}
+draw 3 => {"kind":"patch","patch":[{"op":"replace","path":"/0","value":[1]}],"rev":2}
+
 # An edit is told by snapshots alone: a bound of nothing makes no patch.
 new telling-weight=0
 watching

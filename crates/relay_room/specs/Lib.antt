@@ -2,4 +2,4 @@ pub mod Room
 pub mod Edit
 pub mod Fault
 pub mod CatchUp
-pub mod Watched
+pub mod Newest

@@ -12,8 +12,8 @@
 mod catch_up;
 mod editing;
 mod fault;
+mod newest;
 mod room;
-mod watched;
 
 pub use catch_up::CatchUp;
 pub use fault::{CatchFault, EditFault, RoomFault};

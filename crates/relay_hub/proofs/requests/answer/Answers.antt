@@ -62,11 +62,11 @@ returns-in-Err-clause-told c =
     (written_told c.args.sessions.now c.args.asked.caller c.requires.caller was there now refl
     c.args.report.now.told)
 
-pub returns-in-Err-clause-indexed : goal.returns-in-Err-clause-indexed
-returns-in-Err-clause-indexed c =
+pub returns-in-Err-clause-agree : goal.returns-in-Err-clause-agree
+returns-in-Err-clause-agree c =
     let was = c.session_mut.result.now in
     let there = c.session_mut.ensures.found in
     let now = replied c.reply.result was in
     rw c.reply-in-Err.ensures
     (written_same c.args.sessions.now c.args.asked.caller c.requires.caller was there now refl
-    c.args.watches.now c.requires.indexed refl)
+    c.args.audiences.now c.requires.agree refl)

@@ -6,7 +6,7 @@ use Rattle.relay_hub.specs.Session.{Session, replied}
 use Rattle.relay_hub.specs.Step.{GoesOn}
 use Rattle.relay_hub.proofs.Callers.{written_by, written_same, written_told}
 use Rattle.relay_hub.proofs.Documents.{newest_changes}
-use Rattle.relay_hub.proofs.Indexed.{notified_indexed}
+use Rattle.relay_hub.proofs.Watching.{notified_agrees}
 use Rattle.relay_hub.proofs.requests.edit.Goals as goal
 
 pub reply-requires : goal.reply-requires
@@ -16,17 +16,17 @@ pub reply-requires-in-Err : goal.reply-requires-in-Err
 reply-requires-in-Err c =
     c.requires.space c.session_mut-in-Err.result.now c.session_mut-in-Err.ensures.found
 
-pub broadcast_and_trim-requires-clause-indexed : goal.broadcast_and_trim-requires-clause-indexed
-broadcast_and_trim-requires-clause-indexed c =
+pub broadcast_and_trim-requires-clause-agree : goal.broadcast_and_trim-requires-clause-agree
+broadcast_and_trim-requires-clause-agree c =
     let x = c.session_mut.result.now in
     let there = c.session_mut.ensures.found in
     let number = ap (λ (y : Session). y.number) c.reply.ensures in
     let view = ap (λ (y : Session). y.view) c.reply.ensures in
     written_same c.args.sessions.now c.args.asked.caller c.requires.caller x there c.reply.new.self
-    number c.args.watches.now c.requires.indexed view
+    number c.args.audiences.now c.requires.agree view
 
-pub returns-in-Ok-clause-indexed : goal.returns-in-Ok-clause-indexed
-returns-in-Ok-clause-indexed c =
+pub returns-in-Ok-clause-agree : goal.returns-in-Ok-clause-agree
+returns-in-Ok-clause-agree c =
     let old = c.args.room.now in
     let notified : Room = c.edit.new.self in
     let changes = all_changes old.document c.args.asked.patch in
@@ -43,19 +43,19 @@ returns-in-Ok-clause-indexed c =
     let view = ap (λ (y : Session). y.view) c.reply.ensures in
     let replied =
     written_same xs c.args.asked.caller c.requires.caller x there c.reply.new.self number
-    c.args.watches.now c.requires.indexed view in
-    notified_indexed old.document changes notified c.args.config.telling_weight ys
-    c.broadcast_and_trim.new.sessions c.broadcast_and_trim.result all_notified
-    c.args.watches.now replied
+    c.args.audiences.now c.requires.agree view in
+    notified_agrees old.document changes notified c.args.config.waiting_weight
+    c.args.config.telling_weight ys c.broadcast_and_trim.new.sessions
+    c.broadcast_and_trim.result all_notified c.args.audiences.now replied
 
-pub returns-clause-indexed : goal.returns-clause-indexed
-returns-clause-indexed c =
+pub returns-clause-agree : goal.returns-clause-agree
+returns-clause-agree c =
     let x = c.session_mut-in-Err.result.now in
     let there = c.session_mut-in-Err.ensures.found in
     let number = ap (λ (y : Session). y.number) c.reply-in-Err.ensures in
     let view = ap (λ (y : Session). y.view) c.reply-in-Err.ensures in
     written_same c.args.sessions.now c.args.asked.caller c.requires.caller x there
-    c.reply-in-Err.new.self number c.args.watches.now c.requires.indexed view
+    c.reply-in-Err.new.self number c.args.audiences.now c.requires.agree view
 
 pub returns-in-Ok-clause-told : goal.returns-in-Ok-clause-told
 returns-in-Ok-clause-told c = λ t other absent.

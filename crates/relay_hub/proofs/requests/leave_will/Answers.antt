@@ -15,11 +15,11 @@ returns-clause-leaves c =
     (written_by c.args.sessions.now c.args.caller c.requires.caller x there (now x) refl now
     refl)
 
-pub returns-clause-indexed : goal.returns-clause-indexed
-returns-clause-indexed c =
+pub returns-clause-agree : goal.returns-clause-agree
+returns-clause-agree c =
     let x = c.session_mut.result.now in
     let there = c.session_mut.ensures.found in
     let now = leaves_will c.args.id c.args.patch in
     rw c.leave_will.ensures
     (written_same c.args.sessions.now c.args.caller c.requires.caller x there (now x) refl
-    c.args.watches.now c.requires.indexed refl)
+    c.args.audiences.now c.requires.agree refl)

@@ -4,13 +4,10 @@ use Rattle.std.proofs.lemmas.Bool.Decides.{nat_tests}
 use Rattle.relay_room.specs.Room.{revision}
 use Rattle.relay_hub.specs.Update.{update_of}
 use Rattle.relay_hub.specs.Session.{Session, replied, resumes}
-use Rattle.relay_hub.proofs.Callers.{written_by, written_same, written_put}
+use Rattle.relay_hub.proofs.Callers.{written_agrees, written_by, written_same}
 use Rattle.relay_hub.proofs.Serving.{resume_served, resumes-view}
 use Rattle.relay_hub.proofs.requests.resume.Goals as goal
 use Rattle.relay_hub.proofs.requests.resume.Goals.{then-asked-epoch+in-Ok, else-asked-epoch}
-
-pub resume-requires : goal.resume-requires
-resume-requires c = c.requires.space c.session_mut-2.result.now c.session_mut-2.ensures.found
 
 pub returns-clause-ok : goal.returns-clause-ok
 returns-clause-ok c =
@@ -68,17 +65,17 @@ returns-in-Err-Future-clause-ok c = λ x e.
       rw (c.reply-in-Err-Future.ensures, c.reply.ensures) (rw c.reply.ensures at only),
     )
 
-pub returns-in-Err-Future-clause-indexed : goal.returns-in-Err-Future-clause-indexed
-returns-in-Err-Future-clause-indexed c =
+pub returns-in-Err-Future-clause-agree : goal.returns-in-Err-Future-clause-agree
+returns-in-Err-Future-clause-agree c =
     let was = c.session_mut.result.now in
     let there = c.session_mut.ensures.found in
     let now = replied c.reply.result was in
     rw c.reply-in-Err-Future.ensures
     (written_same c.args.sessions.now c.args.asked.caller c.requires.caller was there now refl
-    c.args.watches.now c.requires.indexed refl)
+    c.args.audiences.now c.requires.agree refl)
 
-pub returns-clause-indexed : goal.returns-clause-indexed
-returns-clause-indexed c =
+pub returns-clause-agree : goal.returns-clause-agree
+returns-clause-agree c =
     let rev = c.revision.result in
     let id = c.args.asked.id in
     let view = c.args.asked.view in
@@ -89,7 +86,6 @@ returns-clause-indexed c =
     let was = c.session_mut-2.result.now in
     let there = c.session_mut-2.ensures.found in
     let watches = ap (λ (x : Session). x.view) resumed ∙ resumes-view rev id view how was in
-    rw c.in_ok-view.ensures.ok
-    (written_put c.args.sessions.now c.args.asked.caller c.requires.caller was there
-    c.resume.new.self c.resume.ensures.number c.args.watches.now
-    c.requires.indexed view watches)
+    written_agrees c.args.sessions.now c.args.asked.caller c.requires.caller was there
+    c.resume.new.self c.resume.ensures.number c.args.audiences.now c.watch.new.self c.requires.agree
+    (rw watches c.in_ok-view.ensures.only)

@@ -1,13 +1,13 @@
 use Rattle.std.proofs.Common.{refl, arith}
-use Rattle.relay_hub.proofs.Indexed.{joined_indexed}
 use Rattle.relay_hub.proofs.Sessions.{push_last}
+use Rattle.relay_hub.proofs.Watching.{joined_agrees}
 use Rattle.relay_hub.proofs.room_sessions.RoomSessions.join.Goals as goal
 
 pub invariant_of-self-2 : goal.invariant_of-self-2
 invariant_of-self-2 c =
     let g = c.self.inside in (
       rw c.in_ok-push.ensures.items
-          (joined_indexed g.watches g.sessions.items c.args.session
+          (joined_agrees g.audiences g.sessions.items c.args.session
           (rw (← c.self.view_is) at c.requires.fresh) c.requires.idle c.self.invariant.0),
       c.self.invariant.1,
     )
