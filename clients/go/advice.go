@@ -6,7 +6,7 @@ var advice = map[string]string{
 	"too-long":     "a request has at most 1,048,576 bytes: send it in parts",
 	"not-json":     "it is no JSON, or nests more than 127 containers",
 	"number":       "numbers are whole and have 64 bits: scale a fraction, or send a text",
-	"shape":        "it lacks a member that it needs, or the relay is too old for it",
+	"shape":        "a member is missing or wrong, or the relay is too old for it",
 	"too-many":     "a patch has at most 64 operations, a view 16 slots: split it",
 	"unknown-op":   "an operation is add, remove, replace, move, copy or test",
 	"pointer":      "a pointer is empty or begins with /; in a name ~1 is / and ~0 is ~",

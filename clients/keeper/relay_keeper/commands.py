@@ -79,7 +79,7 @@ def restoring(asked: argparse.Namespace) -> int:
         if admin is not None or not 1 <= len(words) <= 2 or not is_name(words[0]):
             raise BadName("restore takes a room, and perhaps a time; or --admin alone")
         if len(words) == 1:
-            print("\n".join(listing(store, words[0])))
+            print("\n".join(listing(store, words[0])) or f"{words[0]}: no older state is kept")
         elif asked.url is not None:
             print(asyncio.run(restore_room(asked.url, store, *words)))
         else:

@@ -169,7 +169,7 @@ class Place:
             return slots[view.index(self._shown)]
         part: Part = at(known_by(view, slots), self._path)
         if self._is_size or (part is not ABSENT and not is_value(part)):
-            raise LookupError(f"{self._shown} is not in the view {view}")
+            raise LookupError(f"{self._shown!r} is not in the view {view}")
         return [] if part is ABSENT else [part]
 
     @property

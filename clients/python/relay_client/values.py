@@ -36,10 +36,11 @@ def as_json(value: object, path: str = "", depth: int = 0) -> Json:
         return _text(str(value), path)
     if isinstance(value, float):
         raise ValueError(
-            f"{path}: {value!r} is no whole number; send a scaled whole number, or a text"
+            f"{path or 'the value'}: {value!r} is no whole number; "
+            "send a scaled whole number, or a text"
         )
     if depth >= DEEPEST:
-        raise ValueError(f"{path}: nested too deep")
+        raise ValueError(f"{path or 'the value'}: nested too deep")
     if isinstance(value, Mapping):
         return {
             _name(name, path): as_json(part, f"{path}/{_token(name)}", depth + 1)
@@ -47,24 +48,24 @@ def as_json(value: object, path: str = "", depth: int = 0) -> Json:
         }
     if isinstance(value, Sequence) and not isinstance(value, (bytes, bytearray, memoryview)):
         return [as_json(part, f"{path}/{place}", depth + 1) for place, part in enumerate(value)]
-    raise TypeError(f"{path}: {type(value).__name__} is no JSON")
+    raise TypeError(f"{path or 'the value'}: {type(value).__name__} is no JSON")
 
 
 def _whole(value: int, path: str) -> int:
     if not -(2**63) <= value < 2**63:
-        raise ValueError(f"{path}: {value} does not fit in 64 bits")
+        raise ValueError(f"{path or 'the value'}: {value} does not fit in 64 bits")
     return value
 
 
 def _text(value: str, path: str) -> str:
     if _HALF.search(value):
-        raise ValueError(f"{path}: a text with half of a surrogate pair")
+        raise ValueError(f"{path or 'the value'}: a text with half of a surrogate pair")
     return value
 
 
 def _name(name: object, path: str) -> str:
     if not isinstance(name, str):
-        raise TypeError(f"{path}: a member is named by {name!r}, which is no text")
+        raise TypeError(f"{path or 'the value'}: a member is named by {name!r}, which is no text")
     return _text(str(name), path)
 
 
