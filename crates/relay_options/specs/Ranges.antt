@@ -1,5 +1,9 @@
--- The ranges of the options' numbers.
-use Rattle.std.specs.Prelude.{ℕ, ◌≤◌, ◌≢◌, ⊤, Bool, true, Option, Some, None}
+-- The ranges of the options' numbers, and that their origins are such.
+use Rattle.std.specs.Prelude.{ℕ, ◌≡◌, ◌≤◌, ◌≢◌, ⊤, Bool, true, List, Option, Some, None}
+use Rattle.std.specs.Prelude.{map, string_bytes}
+use Rattle.std.specs.List.{list_all}
+use Rattle.clap.specs.Words.{Text}
+use Rattle.relay_options.specs.Origin.{is_origin}
 use Rattle.relay_options.specs.declared.job.Job.{Job}
 use Rattle.relay_options.specs.declared.job.Job.TheVariants.{Script, Loop, Follow, Serve}
 use Rattle.relay_options.specs.declared.settings.Settings.{Settings}
@@ -45,7 +49,11 @@ abbrev pub IsPerPeer : Option ℕ → Type 0
 IsPerPeer None = ⊤
 IsPerPeer (Some most) = (1 ≤ most) × (most ≤ MAX_PER_PEER)
 
--- a job whose numbers are all in range
+-- each of the texts is an origin
+abbrev pub AreOrigins : List Text → Type 0
+AreOrigins texts = list_all is_origin texts ≡ true
+
+-- a job whose numbers are all in range, and whose origins are such
 abbrev pub IsPossible : Job → Type 0
 IsPossible (Script settings) = AreSettings settings
 IsPossible (Loop settings) = AreSettings settings
@@ -54,4 +62,4 @@ IsPossible (Serve listen port admin rounds log forget_rooms closed output_mib or
     settings) =
     (port ≤ MAX_PORT) × IsAdmin port admin × CanBeOpened closed admin
     × (1 ≤ rounds) × (rounds ≤ MAX_ROUNDS) × (1 ≤ output_mib) × (output_mib ≤ MAX_OUTPUT_MIB)
-    × IsPerPeer per_peer × AreSettings settings
+    × AreOrigins (map string_bytes origins.items) × IsPerPeer per_peer × AreSettings settings

@@ -37,8 +37,8 @@ pub enum Job {
         closed: bool,
         /// The amount of output that is held for all connections together, in MiB: 1 to 2^20.
         output_mib: u64,
-        /// The origins whose pages may connect, in the order of the words and as they are written.
-        /// An empty list means pages of every origin.
+        /// The origins whose pages may connect, in the order of the words and as they are written,
+        /// which is as a browser names them. An empty list means pages of every origin.
         origins: Vec<String>,
         /// The number of connections that one address may have, 1 to 10^6. `None` means no limit.
         per_peer: Option<u64>,

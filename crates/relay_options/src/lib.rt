@@ -6,6 +6,7 @@
 mod commands;
 mod hub_options;
 mod job;
+mod origin;
 mod reading;
 mod server_options;
 mod settings;

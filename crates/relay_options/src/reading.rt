@@ -16,9 +16,10 @@ use clap::{ArgMatches, Error};
 use std::alloc::Global;
 
 /// Parses the arguments `words`, of which the first is the program's name. The job is the one that
-/// the words ask for, and each number of it is in range; a word or an option that no command has
-/// gives none. Otherwise the reason is help or the version, only if it was asked for, words that
-/// name no job or a number out of range, or that memory ran out ([`Stop`]).
+/// the words ask for, each number of it is in range, and each origin is one as a browser names a
+/// site; a word or an option that no command has gives none. Otherwise the reason is help or the
+/// version, only if it was asked for, words that name no job, a number out of range or no origin,
+/// or that memory ran out ([`Stop`]).
 ///
 /// `now` is the number of seconds since 1970, if the clock can be read. It is the epoch of a server
 /// without `--epoch`, so that each run has another one. Without both, the job is refused.
@@ -30,6 +31,18 @@ use std::alloc::Global;
 /// }
 /// let settings = Settings { history: 8, ..Settings::DEFAULT };
 /// assert!(rt; matches!(job_of(alloc, &words, None), Ok(job) if job == Job::Script(settings)));
+/// ```
+///
+/// A slash behind an origin is of no origin:
+///
+/// ```
+/// for (origin, is_one) in [("https://a.example", true), ("https://a.example/", false)] {
+///     let mut words = Vec::new(alloc);
+///     for word in ["relay", "serve", "--port", "7", "--origin", origin] {
+///         words.push(String::from_str(alloc, word).ok()?).ok()?;
+///     }
+///     assert!(rt; job_of(alloc, &words, Some(1)).is_ok() == is_one);
+/// }
 /// ```
 #[tactic(auto, using(crate::proofs::Stops::stops_at, crate::proofs::Stops::refused_at))]
 pub fn job_of(alloc: Global, words: &[String], now: Option<u64>) -> Result<Job, Stop>

@@ -1,6 +1,7 @@
 //! The options of `relay serve` besides those of its hub: what they accept, and the job that they
 //! ask for.
-ghost use Rattle.std.specs.Prelude.{[], ◌≡◌, IfErr, IfOk, codes};
+ghost use Rattle.std.specs.Prelude.{[], ◌≡◌, ◌⊎◌, IfErr, IfOk, codes, false, map, string_bytes};
+ghost use Rattle.std.specs.List.{list_all};
 ghost use Rattle.clap.specs.Words.{app_of, found_of, rows_of, rule_of};
 ghost use Rattle.relay_options.specs.CommandLine.{IsAddressIn, IsFlagIn, IsJobOf, IsNoHelp};
 ghost use Rattle.relay_options.specs.CommandLine.{admin_option};
@@ -8,13 +9,17 @@ ghost use Rattle.relay_options.specs.CommandLine.{closed_option, epoch_option};
 ghost use Rattle.relay_options.specs.CommandLine.{forget_rooms_option, listen_option, log_option};
 ghost use Rattle.relay_options.specs.CommandLine.{number_in, origin_option, output_option};
 ghost use Rattle.relay_options.specs.CommandLine.{per_peer_option, port_option};
-ghost use Rattle.relay_options.specs.CommandLine.{rounds_option, with_server_options};
-ghost use Rattle.relay_options.specs.Ranges.{CanBeOpened, IsAdmin, IsPerPeer, IsPossible};
+ghost use Rattle.relay_options.specs.CommandLine.{rounds_option, texts_in, with_server_options};
+ghost use Rattle.relay_options.specs.Origin.{is_origin};
+ghost use Rattle.relay_options.specs.Ranges.{AreOrigins, CanBeOpened, IsAdmin, IsPerPeer};
+ghost use Rattle.relay_options.specs.Ranges.{IsPossible};
+ghost use Rattle.relay_options.specs.declared.job.Stop.TheVariants.{NoMemory};
 
 use crate::hub_options::{
     epoch, history_weight, settings_of, telling_weight, view_weight, waiting_weight, with_settings,
 };
 use crate::job::{Job, Stop};
+use crate::origin::is_origin;
 use crate::settings::{MAX_OUTPUT_MIB, MAX_PER_PEER, MAX_PORT, MAX_ROUNDS};
 use crate::values::{given_address, given_number, given_texts, is_set, number, number_of};
 use clap::{Arg, ArgAction, ArgMatches, Command};
@@ -198,7 +203,7 @@ pub(crate) fn serve_of(alloc: Global, given: &ArgMatches<'_>, now: Option<u64>) 
         forget_rooms: is_set(given, "forget-rooms"),
         closed: closed_of(alloc, given, admin)?,
         output_mib: number_of(alloc, given, "max-output-mib", 1, MAX_OUTPUT_MIB)?,
-        origins: given_texts(alloc, given, "origin")?,
+        origins: origins_of(alloc, given)?,
         per_peer: per_peer_of(alloc, given)?,
         settings: settings_of(alloc, given, now)?,
     })
@@ -234,6 +239,34 @@ fn admin_of(alloc: Global, given: &ArgMatches<'_>, port: u16) -> Result<Option<u
             "error: --admin takes a port from 1 to {MAX_PORT}, another one than --port\n"
         )?)),
     }
+}
+
+/// The origins whose pages may connect. They are refused if one of them is none: no browser would
+/// name it, so each page of the site that is meant would be refused.
+fn origins_of(alloc: Global, given: &ArgMatches<'_>) -> Result<Vec<String>, Stop>
+    ensures range { IfOk result (λ origins. AreOrigins (map string_bytes origins.items)) }
+    ensures given { IfOk result (λ origins. map string_bytes origins.items
+        ≡ texts_in (codes "origin") (rows_of (found_of given.now))) }
+    ensures refused { IfErr result (λ stop. (stop ≡ NoMemory)
+        ⊎ (list_all is_origin (texts_in (codes "origin") (rows_of (found_of given.now)))
+        ≡ false)) }
+    ensures no_help { IfErr result IsNoHelp }
+{
+    let origins = given_texts(alloc, given, "origin")?;
+    if !are_origins(&origins) {
+        return Err(Stop::Misuse(String::from_str(
+            alloc,
+            "error: --origin takes scheme://host or scheme://host:port, as a browser names a site: \
+             in lower case, without the scheme's own port, and without a slash behind it\n",
+        )?));
+    }
+    Ok(origins)
+}
+
+fn are_origins(texts: &[String]) -> bool
+    ensures { result ≡ list_all is_origin (map string_bytes texts.now) }
+{
+    texts.iter().all(|text| is_origin(text.as_str()))
 }
 
 /// The number of connections that one address may have, if there is a limit; checked again as in

@@ -57,8 +57,13 @@ relay loop --closed => misuse
 
 # Pages of the origins that it is given may connect to a server; they are kept in their order, and as they are written.
 relay serve --port 7 --origin https://example.org => Serve { listen: 127.0.0.1, port: 7, admin: None, rounds: 1000000000000, log: false, forget_rooms: false, closed: false, output_mib: 256, origins: ["https://example.org"], per_peer: None, settings: Settings { history: 64, max_waiting_patches: 32, rooms: 64, sessions: 256, epoch: 1764000000, history_weight: Some(262144), waiting_weight: Some(65536), telling_weight: Some(1048576), view_weight: Some(16384) } }
-relay serve --origin null --port 7 --origin=HTTPS://Example.org:8443 --origin null => Serve { listen: 127.0.0.1, port: 7, admin: None, rounds: 1000000000000, log: false, forget_rooms: false, closed: false, output_mib: 256, origins: ["null", "HTTPS://Example.org:8443", "null"], per_peer: None, settings: Settings { history: 64, max_waiting_patches: 32, rooms: 64, sessions: 256, epoch: 1764000000, history_weight: Some(262144), waiting_weight: Some(65536), telling_weight: Some(1048576), view_weight: Some(16384) } }
+relay serve --origin null --port 7 --origin=https://a.example:8443 --origin null => Serve { listen: 127.0.0.1, port: 7, admin: None, rounds: 1000000000000, log: false, forget_rooms: false, closed: false, output_mib: 256, origins: ["null", "https://a.example:8443", "null"], per_peer: None, settings: Settings { history: 64, max_waiting_patches: 32, rooms: 64, sessions: 256, epoch: 1764000000, history_weight: Some(262144), waiting_weight: Some(65536), telling_weight: Some(1048576), view_weight: Some(16384) } }
 relay serve --port 7 --origin => misuse
+relay serve --port 7 --origin= => misuse
+relay serve --port 7 --origin foo => misuse
+relay serve --port 7 --origin https://example.org/ => misuse
+relay serve --port 7 --origin HTTPS://Example.org => misuse
+relay serve --port 7 --origin https://example.org --origin https://example.org:443 => misuse
 relay serve --port 7 --origin https://a.example https://b.example => misuse
 relay script --origin https://example.org => misuse
 relay loop --origin https://example.org => misuse

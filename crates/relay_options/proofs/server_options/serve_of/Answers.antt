@@ -12,7 +12,7 @@ returns-clause-asked c = (
   c.is_set-2.ensures,
   c.in_ok-closed_of.ensures.given,
   c.in_ok-number_of-2.ensures.given,
-  c.in_ok-given_texts.ensures,
+  c.in_ok-origins_of.ensures.given,
   c.in_ok-per_peer_of.ensures.given,
   c.in_ok-settings_of.ensures.given,
 )
