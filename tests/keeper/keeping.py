@@ -4,7 +4,7 @@ import asyncio
 import signal
 
 from keeper import documents, place, read, says
-from support.patience import PATIENCE
+from support.patience import PATIENCE, becomes
 from support.play import main, shows
 
 FIRST, SECOND, THIRD = {"cards": ["milk"]}, {"cards": ["milk", "bread"]}, {"cards": ["faster"]}
@@ -27,6 +27,30 @@ async def a_keeper_is_not_ready_before_it_has_met_the_relay(here):
     assert here.manager.heard() is None
     here.start_relay()
     await here.manager.hears("READY=1")
+
+
+@shows
+async def one_line_says_that_nothing_answers_until_the_relay_does(here):
+    """However many rooms there are, and however often it is tried."""
+    wanted = f"WARNING nothing answers at ws://127.0.0.1:{here.port}: start the relay there"
+    file = here.folder.with_name("said")
+
+    async def silences():
+        return [line for line in file.read_text().splitlines() if "nothing answers" in line]
+
+    with open(file, "w") as said:
+        here.start_keeper(stderr=said)
+        for times in (1, 2):
+            await becomes(silences, lambda lines: len(lines) == times)
+            await asyncio.sleep(1.5)
+            lines = await silences()
+            assert len(lines) == times and lines[-1].startswith(wanted), lines
+            assert lines[-1].endswith("; it is tried again"), lines
+            here.start_relay()
+            for room in ("one", "two"):
+                await here.set(room, times)
+                await here.kept(room, times)
+            here.relay.end()
 
 
 @shows

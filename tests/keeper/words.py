@@ -3,6 +3,7 @@ store."""
 
 import contextlib
 import json
+import pathlib
 import subprocess
 import tempfile
 
@@ -172,6 +173,10 @@ def wrong_words_have_a_status_of_their_own(_):
         (["restore"], 1),
         (["restore", "--store", "x", "board", "2", "3"], 1),
         (["list", "--store", "nothing://x"], 1),
+        (["list", "--store", "sqllite:x"], 1),
+        (["list", "--store", "sqlite:"], 1),
+        (["list", "--store", "files:"], 1),
+        (["list", "--store", ""], 1),
         (["list", "--store", "/nowhere/at/all"], 1),
         (["list", "--store", "sqlite:/nowhere/at/all"], 1),
     ):
@@ -179,6 +184,22 @@ def wrong_words_have_a_status_of_their_own(_):
         assert (found, told) == (status, ""), (words, found, told, fault)
         assert fault.startswith("usage:" if status == 2 else "relay-keeper: "), (words, fault)
         assert "Traceback" not in fault, fault
+
+
+@shows
+def a_mistyped_kind_of_store_makes_no_folder(_):
+    """A folder whose name has a colon is given by a path."""
+    with tempfile.TemporaryDirectory() as folder:
+        for where in ("sqllite:x", "postgresql:x", "file:x"):
+            told = subprocess.run(
+                words_of("list", "--store", where), capture_output=True, text=True, cwd=folder
+            )
+            wanted = "a store is files:FOLDER, sqlite:PATH, postgresql://.. or a folder, as ./NAME"
+            assert told.returncode == 1 and wanted in told.stderr, told
+        assert not any(pathlib.Path(folder).iterdir())
+        for name, where in (("a:b", f"{folder}/a:b"), ("c:d", f"files:{folder}/c:d")):
+            filled(where)
+            assert pathlib.Path(folder, name).is_dir() and run("list", "--store", where)[0]
 
 
 @shows

@@ -13,7 +13,7 @@ import logging
 from collections import deque
 from concurrent.futures import Executor
 from dataclasses import dataclass
-from typing import Callable, Deque, Optional, Tuple, TypeVar
+from typing import Callable, Deque, Optional, Set, Tuple, TypeVar
 
 import relay_client
 from relay_client.values import same
@@ -59,12 +59,37 @@ class Means:
     """Makes the pace of another room."""
 
 
+class Silence:
+    """Says that nothing answers at the address of the relay: one line for all rooms, until each of
+    them that found it so has an answer."""
+
+    def __init__(self, url: str):
+        self._url = url
+        self._rooms: Set[str] = set()
+
+    def begin(self, room: str, cause: relay_client.HandshakeFailed) -> None:
+        if not self._rooms:
+            log.warning("%s; it is tried again", cause.at(self._url))
+        self._rooms.add(room)
+
+    def end(self, room: str) -> None:
+        self._rooms.discard(room)
+
+
 class Room:
     """`rush` tells how many messages are heard between two looks. `lost` is told when there is no
-    connection."""
+    connection, and `silence` when nothing answers."""
 
-    def __init__(self, name: str, means: Means, rush: Callable[[], int], lost: Callable[[], None]):
+    def __init__(
+        self,
+        name: str,
+        means: Means,
+        rush: Callable[[], int],
+        lost: Callable[[], None],
+        silence: Silence,
+    ):
         self.name, self._means, self._rush, self._lost = name, means, rush, lost
+        self._silence = silence
         self._store, self._pace = means.store, means.pace()
         self._loop = asyncio.get_running_loop()
         self._run: Optional[int] = None  # of which the store is, as the keeper has seen to
@@ -165,19 +190,25 @@ class Room:
 
     def _enter(self, state: relay_client.State, cause: Optional[Exception]) -> None:
         if state == "closed":
+            self._silence.end(self.name)
             self._ended = cause
             self._work.set()
         elif state == "open":
+            self._silence.end(self.name)
             self._refused, self._is_told = None, False
         elif state == "waiting":
             self._lost()
             self._warn(cause)
 
     def _warn(self, cause: Optional[Exception]) -> None:
-        """Says once that the relay refuses this room, if it goes on doing so: one that is closed
-        does until it has its documents."""
-        if not isinstance(cause, relay_client.HandshakeFailed) or cause.reason != "refused":
+        """Says that nothing answers; and once that the relay refuses this room, if it goes on doing
+        so: one that is closed does until it has its documents."""
+        if not isinstance(cause, relay_client.HandshakeFailed):
             return
+        if cause.reason == "unreachable":
+            self._silence.begin(self.name, cause)
+            return
+        self._silence.end(self.name)
         moment = self._loop.time()
         self._refused = moment if self._refused is None else self._refused
         if moment - self._refused >= REFUSED and not self._is_told:

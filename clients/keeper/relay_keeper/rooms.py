@@ -4,7 +4,7 @@ from __future__ import annotations
 import asyncio
 from typing import Callable, Dict, Iterator, Optional, Tuple
 
-from .room import Means, Room
+from .room import Means, Room, Silence
 
 MESSAGES, FEWEST = 128, 8
 """The number of messages that are heard between two looks, of all rooms together, and of each one
@@ -15,7 +15,7 @@ class Rooms:
     """`lost` is told when the connection of a room is lost."""
 
     def __init__(self, means: Means, lost: Callable[[], None] = lambda: None):
-        self._means, self._lost = means, lost
+        self._means, self._lost, self._silence = means, lost, Silence(means.url)
         self._rooms: "Dict[str, Tuple[Room, asyncio.Task[None]]]" = {}
         self.failed: "asyncio.Future[None]" = asyncio.get_running_loop().create_future()
         """Fails with what ended a room that was not left."""
@@ -31,7 +31,7 @@ class Rooms:
         return self._rooms[name][0] if name in self._rooms else None
 
     def enter(self, name: str) -> Room:
-        room = Room(name, self._means, self._rush, self._lost)
+        room = Room(name, self._means, self._rush, self._lost, self._silence)
         keeping = asyncio.ensure_future(room.keep())
         keeping.add_done_callback(self._ended)
         self._rooms[name] = room, keeping

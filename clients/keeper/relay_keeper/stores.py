@@ -21,8 +21,9 @@ class BadStore(Exception):
 def opened(
     where: str, relay: Optional[str] = None, history: int = 1, apart: float = 600.0
 ) -> Store:
-    """`where` is files:FOLDER, sqlite:PATH, postgresql://.., or a folder. A database may have the
-    rooms of several relays, each under a name of its own; a folder has those of one."""
+    """`where` is files:FOLDER, sqlite:PATH, postgresql://.., or a folder, in whose name no `:`
+    stands before the first `/`: that would be a scheme. A database may have the rooms of several
+    relays, each under a name of its own; a folder has those of one."""
     _check(relay)
     scheme, colon, rest = where.partition(":")
     if where.startswith(POSTGRESQL):
@@ -33,12 +34,13 @@ def opened(
         from .sqlite import SQLite
 
         return SQLite(pathlib.Path(rest), relay or NAME, history, apart)
-    if "://" in where or not where:
-        raise BadStore(f"{where!r}: a store is files:FOLDER, sqlite:PATH or postgresql://..")
+    is_named = scheme == "files" and rest != ""
+    if not where or (colon and "/" not in scheme and not is_named):
+        known = "files:FOLDER, sqlite:PATH, postgresql://.. or a folder"
+        raise BadStore(f"{where!r}: a store is {known}, as ./NAME if its name has a colon")
     if relay is not None:
         raise BadStore("--relay is for databases; a folder has the rooms of one relay")
-    path = rest if scheme == "files" and colon else where
-    return Folder(pathlib.Path(path), history, apart)
+    return Folder(pathlib.Path(rest if is_named else where), history, apart)
 
 
 def shared(where: str, relay: Optional[str], history: int, apart: float) -> Shared:
