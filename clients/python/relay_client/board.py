@@ -13,6 +13,7 @@ from .changes import Change, Listener, Listeners, told
 from .draft import Draft
 from .faults import Closed, Refused
 from .follower import Follower, Held
+from .forms import check_base, checked_patch, checked_view
 from .guard import Guard
 from .known import UNKNOWN, known_by
 from .once import Counter
@@ -35,7 +36,7 @@ _NO_BASE: Any = object()
 def connect(url: str, *, view: View, **options: Any) -> "Board":
     """Connects to a room, as ws://127.0.0.1:8080/rooms/NAME, and comes back to it whenever the
     connection is lost. To be called while an event loop runs. The options are those of `Board`.
-    `ValueError` if the address is none of a room."""
+    `ValueError` if the address is none of a room, and `TypeError` if the view is no list."""
     return Board(url, view=view, **options)
 
 
@@ -97,7 +98,7 @@ class Board:
         open_link: Optional[OpenLink] = None,
     ):
         check_room(url)
-        self._begin, view = as_json(begin, "/begin"), as_json(view, "/view")
+        self._begin, view = as_json(begin, "/begin"), checked_view("connect", view)
         self._read_only = read_only
         self._counter = None if once is None else Counter(once)
         self._on_state, self._on_taken_back = on_state or warning(), on_taken_back
@@ -191,7 +192,7 @@ class Board:
         """Shows other pointers from now on. Gives their slots, or those of a later view if one was
         asked for in the meantime. Fails with `Refused`, and the view before stays; and with
         `Closed`."""
-        return await self._follower.watch(as_json(view, "/view"))
+        return await self._follower.watch(checked_view("watch", view))
 
     async def sync(self) -> Slots:
         """The slots, once all that was said so far is answered and shown: this client's edits, and
@@ -224,9 +225,9 @@ class Board:
         awaited or not.
 
         Fails with `Refused`, and nothing changed; with `Unknown`, if the connection was lost before
-        the answer; with `Closed`. What is no JSON, or no number that the relay takes, is a
-        `TypeError` or a `ValueError` of the call, with the place. At most 31 requests are on their
-        way at once; the others wait here, also for a connection, and are sent in order.
+        the answer; with `Closed`. What is no JSON, no number that the relay takes, no list of
+        operations or no base is a `TypeError` or a `ValueError` of the call. At most 31 requests
+        are on their way at once; the others wait here, also for a connection, in order.
 
         An `optimistic` edit shows at once in the slots, as far as they tell what it does, and is
         taken back if it fails. With `undo` left out of the history by False, `undo()` passes it
@@ -252,25 +253,25 @@ class Board:
         twice. It gives its revision, or a later one if the answer was lost. One is on its way at a
         time: what was asked for behind it waits. It has 62 operations of its own at most, and no
         `base`."""
-        own = OwnEdit(_checked(patch))
+        own = OwnEdit(checked_patch("edit", patch))
+        if base is not _NO_BASE:
+            check_base(base)
         answer = self._edit(own, base, epoch, optimistic, self._counter_of(base) if once else None)
         if undo:
             self._history.edited(own)
         return answer
 
-    def replace(
-        self, operation: Operation, optimistic: bool, undo: bool
-    ) -> "asyncio.Future[int]":
+    def replace(self, operation: Operation, optimistic: bool, undo: bool) -> "asyncio.Future[int]":
         """Replaces the value of a place; `Place.set` is made of it."""
         setting = Setting(operation["path"], optimistic, undo)
         earlier = self._link.unsent(setting)
         if earlier is None:
-            own = OwnEdit(_checked([operation]))
+            own = OwnEdit(checked_patch("set", [operation]))
             answer = self._edit(own, _NO_BASE, None, optimistic, setting=setting)
             if undo:
                 self._history.edited(own)
             return answer
-        later = earlier.exchange(_checked([operation]))
+        later = earlier.exchange(checked_patch("set", [operation]))
         self._waiting = []  # what was laid over is to be laid anew
         self._lay_over()
         return later
@@ -364,9 +365,10 @@ class Board:
         Gives a future that is done when the relay has it; without a connection, once there is one.
         Fails with `Refused`, and the will before stays: as `shape` by a relay that knows no wills,
         as `too-heavy` if it weighs more than 65,536; and with `Closed`."""
+        checked = checked_patch("will", patch)
         if self._read_only:
             return _read_only()
-        left = self._link.leave(_checked(patch))
+        left = self._link.leave(checked)
         over = self._said.begin()
         left.add_done_callback(lambda left: over())
         return left
@@ -432,7 +434,7 @@ class Board:
             held = self._follower.held
             if held is None or self._state == "closed":
                 raise Closed()
-            own = OwnEdit(_checked(make(held)))
+            own = OwnEdit(checked_patch("update", make(held)))
             answer = self._edit(own, held.rev, held.epoch, optimistic)
             keep(own)
             try:
@@ -589,12 +591,6 @@ def _read_only() -> "asyncio.Future[Any]":
     refused: "asyncio.Future[Any]" = asyncio.get_running_loop().create_future()
     refused.set_exception(Refused("read-only"))
     return refused
-
-
-def _checked(patch: Json) -> Patch:
-    """A copy. Its values are named by their paths in it, as /0/value/cards/3."""
-    checked: Patch = as_json(patch)
-    return checked
 
 
 def _fitting(inverse: Inverse, held: Held) -> Patch:
