@@ -55,6 +55,6 @@ async def main(port, room="board"):
 
 
 if __name__ == "__main__":
-    if not 2 <= len(sys.argv) <= 3:
+    if not 2 <= len(sys.argv) <= 3 or sys.argv[1].startswith("-"):
         sys.exit(__doc__)
     asyncio.run(main(*sys.argv[1:]))
