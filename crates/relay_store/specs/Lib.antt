@@ -1,0 +1,4 @@
+pub mod Kept
+pub mod Memory
+pub mod Store
+pub mod Texts

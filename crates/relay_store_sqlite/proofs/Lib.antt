@@ -1,0 +1,5 @@
+pub mod Commits
+pub mod Cursors
+pub mod Puts
+pub mod Quiet
+pub mod Rowids

@@ -1,0 +1,4 @@
+pub mod Durable
+pub mod Fault
+pub mod Rows
+pub mod Table

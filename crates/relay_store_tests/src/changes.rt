@@ -1,0 +1,127 @@
+//! Tests of a store in memory and of a database in memory, which read back the same changes.
+use relay_store::{Change, Keeps, MemoryStore};
+use relay_store_sqlite::{SqliteStore, adopt};
+use relay_test_stream::{Subject, cut, play};
+use sqlite::{Connection, MemStore};
+use std::alloc::{AllocGlobal, Global};
+use std::test::Fail;
+
+/// Each act is a commit of one change, and `read` tells all changes.
+const ROWS: &str = "
+read
+floor 12
+begin board 4 null
+edit board [1, 2]
+will 3 board []
+undo 3
+end board
+read => floor 12;begin board 4 null;edit board [1, 2];will 3 board [];undo 3;end board;
+";
+
+/// The words of a change.
+fn words(alloc: Global, change: &Change<String>) -> Option<String> {
+    let text = match change {
+        Change::Begin {
+            room,
+            revision,
+            document,
+        } => format!(in alloc; "begin {room} {revision} {document};"),
+        Change::Edit { room, text } => format!(in alloc; "edit {room} {text};"),
+        Change::End { room } => format!(in alloc; "end {room};"),
+        Change::RaiseFloor { revision } => format!(in alloc; "floor {revision};"),
+        Change::LeaveWill {
+            session,
+            room,
+            text,
+        } => format!(in alloc; "will {session} {room} {text};"),
+        Change::DropWill { session } => format!(in alloc; "undo {session};"),
+    };
+    text.ok()
+}
+
+/// The words of changes.
+fn all_words(alloc: Global, changes: &[Change<String>]) -> Option<String> {
+    let mut all = String::new(alloc);
+    for change in changes {
+        all.push_str(words(alloc, change)?.as_str()).ok()?;
+    }
+    Some(all)
+}
+
+/// The change that words stand for.
+fn change_of(act: &str) -> Option<Change<&str>> {
+    let (verb, rest) = cut(act);
+    let (first, second) = cut(rest);
+    Some(match verb {
+        "begin" => {
+            let (revision, document) = cut(second);
+            Change::Begin {
+                room: first,
+                revision: revision.parse().ok()?,
+                document,
+            }
+        }
+        "edit" => Change::Edit {
+            room: first,
+            text: second,
+        },
+        "end" => Change::End { room: first },
+        "floor" => Change::RaiseFloor {
+            revision: first.parse().ok()?,
+        },
+        "will" => {
+            let (room, text) = cut(second);
+            Change::LeaveWill {
+                session: first.parse().ok()?,
+                room,
+                text,
+            }
+        }
+        "undo" => Change::DropWill {
+            session: first.parse().ok()?,
+        },
+        _ => return None,
+    })
+}
+
+/// A store in memory.
+#[derive(Drop)]
+struct InMemory {
+    store: MemoryStore,
+}
+
+impl<R: AllocGlobal> Subject<R> for InMemory {
+    fn act(&mut self, rt: &R, act: &str) -> Option<String> {
+        if act == "read" {
+            return all_words(rt.alloc(), &self.store.read().ok()?);
+        }
+        self.store.commit(&[change_of(act)?]).ok()?;
+        Some(String::new(rt.alloc()))
+    }
+}
+
+#[test]
+fn memory_keeps_changes(rt: HostRuntime) -> Result<(), Fail> {
+    let store = MemoryStore::new(rt.alloc(), 7);
+    assert_eq!(rt; store.epoch(), 7);
+    let mut subject = InMemory { store };
+    play(&rt, &mut subject, ROWS)?;
+    Ok(())
+}
+
+#[test]
+fn a_database_keeps_changes(rt: HostRuntime) -> Result<(), Fail> {
+    let opened = adopt(rt.alloc(), Connection::open_in_memory(rt.alloc())?, 7)?;
+    assert_eq!(rt; opened.epoch, 7);
+    assert!(rt; opened.changes.is_empty());
+    let mut store: SqliteStore<MemStore> = opened.store;
+    let begin = Change::Begin {
+        room: "board",
+        revision: 4,
+        document: "null",
+    };
+    store.commit(&[begin, Change::RaiseFloor { revision: 12 }])?;
+    let words = all_words(rt.alloc(), &store.read(rt.alloc())?);
+    assert!(rt; words.is_some_and(|words| words.as_str() == "begin board 4 null;floor 12;"));
+    Ok(())
+}
