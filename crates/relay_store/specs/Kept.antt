@@ -1,4 +1,4 @@
--- What a store keeps, and what it keeps after each change. A name and a text are their bytes.
+-- The rooms and wills that a store keeps, after each change. A name and a text are their bytes.
 use Rattle.std.specs.Prelude.{ℕ, ◌+◌, max, not, bytes_eq, nat_eq, if◌then◌else◌}
 use Rattle.std.specs.Prelude.{List, [], ◌∷◌, ◌++◌, filter, length, map}
 use Rattle.relay_store.specs.declared.change.Change.{Change}

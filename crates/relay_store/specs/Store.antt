@@ -1,4 +1,4 @@
--- What a crash leaves of a store, and why a call of a store fails.
+-- The outcomes of a crash for a store, and the causes for which a call of a store fails.
 use Rattle.std.specs.Prelude.{◌≡◌, ◌⊎◌, ◌≤◌, ◌+◌, ◌-◌, ◌^◌, min, ℕ, List, Result, IsErrOf}
 use Rattle.relay_store.specs.declared.change.Change.{Change}
 use Rattle.relay_store.specs.declared.fault.StoreFault.{StoreFault}

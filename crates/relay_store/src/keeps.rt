@@ -19,7 +19,7 @@ pub trait Keeps {
     /// The rooms and wills that the last commit left.
     ghost kept: { Self → Kept };
 
-    /// What a crash at this moment may leave.
+    /// All that a crash at this moment may leave.
     ghost may_leave: { Self → Kept → Type 0 };
 
     /// Nothing of a failed commit is under way. It holds of a store that was opened.

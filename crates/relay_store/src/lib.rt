@@ -1,4 +1,4 @@
-//! What the relay keeps through the end of its process, and the trait of a store that keeps it.
+//! Rooms and wills that are kept through the end of the process, and the trait of a store of them.
 //!
 //! The promise: a commit keeps all of its [`Change`]s or none of them. From its `Ok` on, until the
 //! next commit begins, a crash leaves exactly what the changes so far make; after an error it

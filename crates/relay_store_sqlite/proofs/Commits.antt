@@ -1,4 +1,4 @@
--- What a commit of rows keeps.
+-- A commit of rows keeps what they stand for.
 use Rattle.std.proofs.Common.{◌≡◌, ◌≢◌, ◌⊎◌, ◌∙◌, ℕ, false, List, map, ap, sym}
 use Rattle.std.proofs.Common.{subst, arith, inl, inr}
 use Rattle.sqlite_trees.specs.declared.store.Shape.TheVariants.{Table}
