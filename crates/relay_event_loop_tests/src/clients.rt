@@ -245,7 +245,8 @@ impl<'a> Clients<'a> {
 
     /// Begins anew, with a server of another hub.
     fn begin(&mut self, alloc: Global, config: HubConfig) -> Option<()> {
-        self.server = MemoryServer::new(alloc, self.script, config)?;
+        let server = MemoryServer::new(alloc, self.script, config)?;
+        drop(mem::replace(&mut self.server, server));
         Some(())
     }
 
