@@ -3,7 +3,6 @@
 import contextlib
 import os
 import pathlib
-import re
 import shutil
 import signal
 import sys
@@ -18,8 +17,6 @@ TRIED = OUT / "tried"
 # What the program prints of itself, for whoever asks before it is built. tests/help compares it.
 HELP = ROOT / "tools/help"
 JOBS = ("script", "loop", "follow", "serve")
-# An option in such a text, and its value if it has one.
-OPTION = re.compile(r"^ +(?:-h, )?(--[a-z-]+)(?: (<[A-Z]+>))?(?= |$)", re.M)
 LAUNCHER = """\
 ./relay builds the program before it runs a job, if a source changed:
   ./relay JOB..           proves all first: 25 minutes or more from nothing
@@ -63,32 +60,6 @@ def asked_of_itself(words):
     first, second = words if len(words) == 2 else ("", "")
     job = first if second in ("--help", "-h") else second if first == "help" else ""
     return HELP / f"{job}.txt" if job in JOBS else None
-
-
-def misuse_of(job, words):
-    """The fault of words that the job does not take, by what it prints of itself; None if it takes
-    them. The program judges their values."""
-    text = (HELP / f"{job}.txt").read_text()
-    takes = {name: bool(value) for name, value in OPTION.findall(text)} | {"-h": False}
-    given = iter(words)
-    named = set()
-    for word in given:
-        name, has_value, _ = word.partition("=")
-        if name not in takes:
-            return f"{job} takes no {word}"
-        named.add(name)
-        if takes[name] and not has_value and next(given, None) is None:
-            return f"{name} lacks its value"
-    usage = re.search("^Usage: .*$", text, re.M)[0]
-    lacks = [name for name in re.findall("--[a-z-]+", usage) if name not in named]
-    return f"{job} needs {lacks[0]}" if lacks and not named & {"--help", "-h"} else None
-
-
-def refuse_misuse(words):
-    job, *more = words or ["script"]
-    if job in JOBS and (fault := misuse_of(job, more)):
-        print(f"relay: {fault}; ./relay {job} --help names what it takes", file=sys.stderr)
-        sys.exit(2)
 
 
 def print_from(file):
@@ -166,14 +137,12 @@ def main(words):
         if file := asked_of_itself(more if first == "--try" else words):
             print_from(file)
         elif first == "--try":
-            refuse_misuse(more)
             run_tried(more)
         elif first == "--check":
             check(more)
         elif words == ["--build"]:
             build_proved()
         elif first in JOBS:
-            refuse_misuse(words)
             run_proved(words)
         else:
             print(f"relay: no job or option {first}; ./relay --help names them", file=sys.stderr)
