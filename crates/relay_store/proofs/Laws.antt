@@ -7,8 +7,8 @@ use Rattle.relay_store.specs.declared.change.Change.TheVariants.{LeaveWill, Drop
 use Rattle.relay_store.specs.Kept.{Kept, changed, committed}
 
 epoch_changed : (kept : Kept) (change : Change (List ℕ)) → (changed kept change).epoch ≡ kept.epoch
-epoch_changed kept (Begin room revision document) = refl
-epoch_changed kept (Edit room text) = refl
+epoch_changed kept (Begin room revision text) = refl
+epoch_changed kept (Edit room revision text) = refl
 epoch_changed kept (End room) = refl
 epoch_changed kept (RaiseFloor revision) = refl
 epoch_changed kept (LeaveWill session room text) = refl

@@ -8,8 +8,8 @@ use Rattle.relay_store.specs.declared.change.Change.TheVariants.{LeaveWill, Drop
 
 -- the change with other texts
 abbrev pub with_texts : {T U : Type 0} → (T → U) → Change T → Change U
-with_texts text (Begin room revision document) = Begin (text room) revision (text document)
-with_texts text (Edit room edit) = Edit (text room) (text edit)
+with_texts text (Begin room revision snapshot) = Begin (text room) revision (text snapshot)
+with_texts text (Edit room revision patch) = Edit (text room) revision (text patch)
 with_texts text (End room) = End (text room)
 with_texts text (RaiseFloor revision) = RaiseFloor revision
 with_texts text (LeaveWill session room will) = LeaveWill session (text room) (text will)

@@ -5,20 +5,22 @@ ghost use Rattle.relay_store.specs.Texts.{lent, owned};
 use std::alloc::{AllocError, Global};
 
 /// A change of what a store keeps. `T` is a text: `&str` for a commit, `String` for what is read
-/// back. A session is the number by which the hub knows it.
+/// back. A session is the number by which the hub knows it. The texts of a room are the messages
+/// that a client which watches its whole document is told.
 ///
 /// ```
-/// let edit = Change::Edit { room: "board", text: "[]" };
+/// let edit = Change::Edit { room: "board", revision: 3, text: "{}" };
 /// let kept = edit.into_owned(alloc).ok()?;
-/// assert!(rt; matches!(kept.borrow(), Change::Edit { room: "board", text: "[]" }));
+/// assert!(rt; matches!(kept.borrow(), Change::Edit { room: "board", revision: 3, text: "{}" }));
 /// ```
 #[derive(Clone, Copy, Debug, Drop)]
 pub enum Change<T> {
-    /// A room's record begins at a revision with its document, as JSON: the room is new, or its
+    /// A room's record begins with a snapshot message, at its revision: the room is new, or its
     /// record is taken anew. It replaces all that was kept of the room.
-    Begin { room: T, revision: u64, document: T },
-    /// An edit of a room was accepted. If no room of that name is kept, nothing changes.
-    Edit { room: T, text: T },
+    Begin { room: T, revision: u64, text: T },
+    /// A room goes on to a revision, by a patch message that leads there. If no room of that name
+    /// is kept, nothing changes.
+    Edit { room: T, revision: u64, text: T },
     /// A room is forgotten.
     End { room: T },
     /// No room begins below this revision any more. The floor never falls.
@@ -38,14 +40,19 @@ impl<'a> Change<&'a str> {
             Change::Begin {
                 room,
                 revision,
-                document,
+                text,
             } => Change::Begin {
                 room: room.to_string(alloc)?,
                 revision,
-                document: document.to_string(alloc)?,
+                text: text.to_string(alloc)?,
             },
-            Change::Edit { room, text } => Change::Edit {
+            Change::Edit {
+                room,
+                revision,
+                text,
+            } => Change::Edit {
                 room: room.to_string(alloc)?,
+                revision,
                 text: text.to_string(alloc)?,
             },
             Change::End { room } => Change::End {
@@ -75,14 +82,19 @@ impl Change<String> {
             Change::Begin {
                 room,
                 revision,
-                document,
+                text,
             } => Change::Begin {
                 room: room.as_str(),
                 revision: *revision,
-                document: document.as_str(),
+                text: text.as_str(),
             },
-            Change::Edit { room, text } => Change::Edit {
+            Change::Edit {
+                room,
+                revision,
+                text,
+            } => Change::Edit {
                 room: room.as_str(),
+                revision: *revision,
                 text: text.as_str(),
             },
             Change::End { room } => Change::End {

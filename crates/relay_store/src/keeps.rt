@@ -11,8 +11,8 @@ use crate::fault::StoreFault;
 ///
 /// ```
 /// let mut store = MemoryStore::new(alloc, 7);
-/// let begin = Change::Begin { room: "board", revision: 0, document: "null" };
-/// store.commit(&[begin, Change::Edit { room: "board", text: "[]" }]).ok()?;
+/// let begin = Change::Begin { room: "board", revision: 4, text: "{}" };
+/// store.commit(&[begin, Change::Edit { room: "board", revision: 5, text: "{}" }]).ok()?;
 /// assert!(rt; store.read().ok()?.len() == 2);
 /// ```
 pub trait Keeps {

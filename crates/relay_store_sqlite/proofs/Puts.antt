@@ -17,8 +17,8 @@ use Rattle.relay_store_sqlite.specs.declared.write.TheConstants.{CHANGE_TREE}
 use Rattle.relay_store_sqlite.proofs.Rowids.{rowid_of, put_last, below_next}
 
 change_back : (id : ℕ) (change : Change (List ℕ)) → change_of (row_of id change) ≡ change
-change_back id (Begin room revision document) = refl
-change_back id (Edit room text) = refl
+change_back id (Begin room revision text) = refl
+change_back id (Edit room revision text) = refl
 change_back id (End room) = refl
 change_back id (RaiseFloor revision) = refl
 change_back id (LeaveWill session room text) = refl

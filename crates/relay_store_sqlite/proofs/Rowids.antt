@@ -15,8 +15,8 @@ use Rattle.relay_store_sqlite.specs.Rows.{row_of}
 use Rattle.relay_store_sqlite.specs.Table.{AreBelow}
 
 pub rowid_of : (id : ℕ) (change : Change (List ℕ)) → rowid (row_of id change) ≡ Int (pos id)
-rowid_of id (Begin room revision document) = refl
-rowid_of id (Edit room text) = refl
+rowid_of id (Begin room revision text) = refl
+rowid_of id (Edit room revision text) = refl
 rowid_of id (End room) = refl
 rowid_of id (RaiseFloor revision) = refl
 rowid_of id (LeaveWill session room text) = refl

@@ -23,8 +23,8 @@ entry id kind room number text =
 
 -- the row of a change. What a change lacks is empty, or 0
 abbrev pub row_of : ℕ → Change (List ℕ) → Row
-row_of id (Begin room revision document) = entry id kind.BEGIN room revision document
-row_of id (Edit room text) = entry id kind.EDIT room 0 text
+row_of id (Begin room revision text) = entry id kind.BEGIN room revision text
+row_of id (Edit room revision text) = entry id kind.EDIT room revision text
 row_of id (End room) = entry id kind.END room 0 []
 row_of id (RaiseFloor revision) = entry id kind.RAISE_FLOOR [] revision []
 row_of id (LeaveWill session room text) = entry id kind.LEAVE_WILL room session text
@@ -34,7 +34,7 @@ row_of id (DropWill session) = entry id kind.DROP_WILL [] session []
 abbrev pub change_with : ℕ → List ℕ → ℕ → List ℕ → Change (List ℕ)
 change_with k room number text =
     if k == kind.BEGIN then Begin room number text else
-    (if k == kind.EDIT then Edit room text else
+    (if k == kind.EDIT then Edit room number text else
     (if k == kind.END then End room else
     (if k == kind.RAISE_FLOOR then RaiseFloor number else
     (if k == kind.LEAVE_WILL then LeaveWill number room text else DropWill number))))

@@ -76,11 +76,15 @@ fn change_with(
         return Ok(Change::Begin {
             room,
             revision: number,
-            document: text,
+            text,
         });
     }
     if kind == EDIT as u64 {
-        return Ok(Change::Edit { room, text });
+        return Ok(Change::Edit {
+            room,
+            revision: number,
+            text,
+        });
     }
     if kind == END as u64 {
         return Ok(Change::End { room });

@@ -62,9 +62,13 @@ pub(crate) fn fill_change(row: &mut Row, id: u64, change: Change<&str>) -> Resul
         Change::Begin {
             room,
             revision,
-            document,
-        } => fill(row, id, BEGIN, room, revision, document),
-        Change::Edit { room, text } => fill(row, id, EDIT, room, 0, text),
+            text,
+        } => fill(row, id, BEGIN, room, revision, text),
+        Change::Edit {
+            room,
+            revision,
+            text,
+        } => fill(row, id, EDIT, room, revision, text),
         Change::End { room } => fill(row, id, END, room, 0, ""),
         Change::RaiseFloor { revision } => fill(row, id, RAISE_FLOOR, "", revision, ""),
         Change::LeaveWill {

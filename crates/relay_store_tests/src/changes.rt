@@ -11,11 +11,11 @@ const ROWS: &str = "
 read
 floor 12
 begin board 4 null
-edit board [1, 2]
+edit board 6 [1, 2]
 will 3 board []
 undo 3
 end board
-read => floor 12;begin board 4 null;edit board [1, 2];will 3 board [];undo 3;end board;
+read => floor 12;begin board 4 null;edit board 6 [1, 2];will 3 board [];undo 3;end board;
 ";
 
 /// The words of a change.
@@ -24,9 +24,13 @@ fn words(alloc: Global, change: &Change<String>) -> Option<String> {
         Change::Begin {
             room,
             revision,
-            document,
-        } => format!(in alloc; "begin {room} {revision} {document};"),
-        Change::Edit { room, text } => format!(in alloc; "edit {room} {text};"),
+            text,
+        } => format!(in alloc; "begin {room} {revision} {text};"),
+        Change::Edit {
+            room,
+            revision,
+            text,
+        } => format!(in alloc; "edit {room} {revision} {text};"),
         Change::End { room } => format!(in alloc; "end {room};"),
         Change::RaiseFloor { revision } => format!(in alloc; "floor {revision};"),
         Change::LeaveWill {
@@ -54,17 +58,21 @@ fn change_of(act: &str) -> Option<Change<&str>> {
     let (first, second) = cut(rest);
     Some(match verb {
         "begin" => {
-            let (revision, document) = cut(second);
+            let (revision, text) = cut(second);
             Change::Begin {
                 room: first,
                 revision: revision.parse().ok()?,
-                document,
+                text,
             }
         }
-        "edit" => Change::Edit {
-            room: first,
-            text: second,
-        },
+        "edit" => {
+            let (revision, text) = cut(second);
+            Change::Edit {
+                room: first,
+                revision: revision.parse().ok()?,
+                text,
+            }
+        }
         "end" => Change::End { room: first },
         "floor" => Change::RaiseFloor {
             revision: first.parse().ok()?,
@@ -118,7 +126,7 @@ fn a_database_keeps_changes(rt: HostRuntime) -> Result<(), Fail> {
     let begin = Change::Begin {
         room: "board",
         revision: 4,
-        document: "null",
+        text: "null",
     };
     store.commit(&[begin, Change::RaiseFloor { revision: 12 }])?;
     let words = all_words(rt.alloc(), &store.read(rt.alloc())?);
