@@ -8,11 +8,13 @@
 #![tactic(auto)]
 
 mod fault;
+mod file;
 mod opening;
 mod read;
 mod row;
 mod store;
 mod write;
 
+pub use file::open;
 pub use opening::{Opened, adopt};
 pub use store::SqliteStore;

@@ -23,7 +23,7 @@ const CHANGE: &str = "CREATE TABLE change (id INTEGER PRIMARY KEY, kind INTEGER 
     room TEXT NOT NULL, number INTEGER NOT NULL, text TEXT NOT NULL) STRICT";
 
 /// The fault that an error of a statement is told as.
-fn statement_fault(error: Error) -> StoreFault {
+pub(crate) fn statement_fault(error: Error) -> StoreFault {
     match error {
         Error::SqliteFailure(ErrorCode::OutOfMemory) => StoreFault::NoMemory,
         Error::SqliteFailure(ErrorCode::SystemIoFailure) => StoreFault::Failed,

@@ -3,3 +3,5 @@
 
 #[cfg(test)]
 mod changes;
+#[cfg(test)]
+mod files;
