@@ -1,2 +1,4 @@
+pub mod Filters
 pub mod Laws
+pub mod Replaced
 pub mod Rows
