@@ -1,32 +1,20 @@
 -- A commit of rows keeps what they stand for.
-use Rattle.std.proofs.Common.{◌≡◌, ◌≢◌, ◌⊎◌, ◌∙◌, ℕ, false, List, map, ap, sym}
-use Rattle.std.proofs.Common.{subst, arith, inl, inr}
+use Rattle.std.proofs.Common.{◌≡◌, ◌⊎◌, ◌∙◌, ℕ, false, List, ap, sym, subst, inl, inr}
 use Rattle.sqlite_trees.specs.declared.store.Shape.TheVariants.{Table}
 use Rattle.sqlite_trees.specs.Tree.{Trees}
 use Rattle.sqlite_trees.specs.View.{View, Commits}
 use Rattle.relay_store.specs.declared.change.Change.{Change}
-use Rattle.relay_store.specs.Kept.{begun, committed}
-use Rattle.relay_store.proofs.Laws.{grown}
-use Rattle.relay_store_sqlite.specs.Rows.{kept_in, change_of, epoch_of, rows_from}
+use Rattle.relay_store.specs.Kept.{committed}
+use Rattle.relay_store_sqlite.specs.Rows.{kept_in}
 use Rattle.relay_store_sqlite.specs.Table.{AreBelow, IsReady, Wrote}
-use Rattle.relay_store_sqlite.specs.declared.write.TheConstants.{META_TREE, CHANGE_TREE}
-use Rattle.relay_store_sqlite.proofs.Puts.{changes_back}
+use Rattle.relay_store_sqlite.specs.declared.write.TheConstants.{CHANGE_TREE}
 
-apart : META_TREE ≢ CHANGE_TREE
-apart e = omega (arith, e)
-
--- the rows stand for what the changes make
-pub kept_wrote : (old mid : View) (next : ℕ) (changes : List (Change (List ℕ)))
+-- what the rows stand for
+kept_wrote : (old mid : View) (next : ℕ) (changes : List (Change (List ℕ)))
     → old.trees ≡ old.committed → Wrote old mid next changes
     → kept_in mid.trees ≡ committed (kept_in old.committed) changes
 kept_wrote old mid next changes still wrote =
-    let start = begun (epoch_of (old.trees META_TREE)) in
-    ap (λ rows. committed (begun (epoch_of rows)) (map change_of (mid.trees CHANGE_TREE)))
-    (wrote.others META_TREE apart)
-    ∙ ap (λ rows. committed start (map change_of rows)) wrote.rows
-    ∙ grown change_of start (old.trees CHANGE_TREE) (rows_from next changes) changes
-    (changes_back next changes)
-    ∙ ap (λ (trees : Trees). committed (kept_in trees) changes) still
+    wrote.kept ∙ ap (λ (trees : Trees). committed (kept_in trees) changes) still
 
 -- the store is ready for the next commit
 pub ready_after : (mid new : View) (next : ℕ) → Commits mid new → mid.shape CHANGE_TREE ≡ Table

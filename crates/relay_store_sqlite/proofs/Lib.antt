@@ -2,4 +2,5 @@ pub mod Commits
 pub mod Cursors
 pub mod Puts
 pub mod Quiet
+pub mod Removes
 pub mod Rowids

@@ -1,19 +1,20 @@
 -- Rows of changes, one after the other.
-use Rattle.std.proofs.Common.{◌≡◌, ◌≢◌, ◌∙◌, ◌+◌, ℕ, List, [], ◌∷◌, ◌++◌, map, length, ap, sym}
-use Rattle.std.proofs.lemmas.List.{take_more, map-append, length-map, length-take-le}
-use Rattle.std.proofs.Common.{◌<◌, take, get_or}
-use Rattle.std.proofs.Common.{subst, arith, refl, append_assoc, append-nil, ne_eqb}
+use Rattle.std.proofs.Common.{◌≡◌, ◌∙◌, ◌+◌, ◌<◌, ℕ, List, [], ◌∷◌, ◌++◌, map, take, length}
+use Rattle.std.proofs.Common.{get_or, ap, sym, subst, arith, refl}
+use Rattle.std.proofs.lemmas.List.{take_more, map-append}
 use Rattle.std.specs.List.{AllByRecursion}
 use Rattle.std.specs.declared.cmp.Ordering.TheVariants.{Less}
-use Rattle.sqlite_value.specs.Order.{Row, value_cmp}
-use Rattle.sqlite_trees.specs.Tree.{rowid, put_row, with_tree}
+use Rattle.sqlite_value.specs.Order.{value_cmp}
+use Rattle.sqlite_trees.specs.Tree.{rowid, put_row}
 use Rattle.sqlite_trees.specs.View.{View, SetsTree}
 use Rattle.relay_store.specs.declared.change.Change.{Change}
 use Rattle.relay_store.specs.declared.change.Change.TheVariants.{Begin, Edit, End, RaiseFloor}
 use Rattle.relay_store.specs.declared.change.Change.TheVariants.{LeaveWill, DropWill}
-use Rattle.relay_store_sqlite.specs.Rows.{row_of, rows_from, change_of}
-use Rattle.relay_store_sqlite.specs.Table.{AreBelow, Wrote}
-use Rattle.relay_store_sqlite.specs.declared.write.TheConstants.{CHANGE_TREE}
+use Rattle.relay_store.specs.Kept.{begun, committed}
+use Rattle.relay_store.proofs.Laws.{committed_append, grown}
+use Rattle.relay_store_sqlite.specs.Rows.{row_of, change_of, epoch_of, kept_in}
+use Rattle.relay_store_sqlite.specs.Table.{AreBelow, Spares, Wrote}
+use Rattle.relay_store_sqlite.specs.declared.write.TheConstants.{META_TREE, CHANGE_TREE}
 use Rattle.relay_store_sqlite.proofs.Rowids.{rowid_of, put_last, below_next}
 
 change_back : (id : ℕ) (change : Change (List ℕ)) → change_of (row_of id change) ≡ change
@@ -24,76 +25,55 @@ change_back id (RaiseFloor revision) = refl
 change_back id (LeaveWill session room text) = refl
 change_back id (DropWill session) = refl
 
--- the rows of changes stand for them
-pub changes_back : (id : ℕ) (changes : List (Change (List ℕ)))
-    → map change_of (rows_from id changes) ≡ changes
-changes_back id [] = refl
-changes_back id (change ∷ changes) =
-    ap (λ c. c ∷ map change_of (rows_from (id + 1) changes)) (change_back id change)
-    ∙ ap (λ cs. change ∷ cs) (changes_back (id + 1) changes)
-
 -- the row of one more change
-rows_last : (id : ℕ) (changes : List (Change (List ℕ))) (last : Change (List ℕ))
-    → rows_from id (changes ++ last ∷ [])
-    ≡ rows_from id changes ++ row_of (id + length changes) last ∷ []
-rows_last id [] last = ap (λ n. row_of n last ∷ []) (omega arith)
-rows_last id (change ∷ changes) last =
-    ap (λ rows. row_of id change ∷ rows) (rows_last (id + 1) changes last
-    ∙ ap (λ n. rows_from (id + 1) changes ++ row_of n last ∷ []) (omega arith))
+wrote_row : (old new : View) (id : ℕ) (change : Change (List ℕ))
+    → AreBelow id (old.trees CHANGE_TREE)
+    → SetsTree old new CHANGE_TREE (put_row (row_of id change)) → Wrote old new (id + 1) (change ∷ [])
+wrote_row old new id change below sets =
+    let row = row_of id change in
+    let rows = old.trees CHANGE_TREE in
+    let start = begun (epoch_of (old.trees META_TREE)) in
+    let all = subst (λ v. AllByRecursion (λ r. value_cmp (rowid r) v ≡ Less) rows)
+    (sym (rowid_of id change)) below in
+    let put : new.trees CHANGE_TREE ≡ rows ++ row ∷ [] =
+    ap (λ (v : View). v.trees CHANGE_TREE) sets.is ∙ put_last row rows all in
+    record {
+      kept = ap (λ rows. committed (begun (epoch_of rows)) (map change_of (new.trees CHANGE_TREE)))
+          (ap (λ (v : View). v.trees META_TREE) sets.is)
+          ∙ ap (λ rows. committed start (map change_of rows)) put
+          ∙ grown change_of start rows (row ∷ []) (change ∷ [])
+          (ap (λ c. c ∷ []) (change_back id change));
+      below = subst (AreBelow (id + 1)) (sym put) (below_next id change rows below);
+      shape = ap (λ (v : View). v.shape) sets.is;
+    }
 
-at_other : (old new : View) (rows : List Row) (t : ℕ) → t ≢ CHANGE_TREE
-    → with_tree old.trees CHANGE_TREE rows t ≡ old.trees t
-at_other old new rows t other = rw (ne_eqb t CHANGE_TREE other)
-
--- nothing is written yet
-pub wrote_none : (v : View) (next : ℕ) → Wrote v v next []
-wrote_none v next =
-    record { rows = sym (append-nil _); others = λ t other. refl; shape = refl; sound = refl }
-
--- one more row
-pub wrote_more : (old mid new : View) (next : ℕ) (changes : List (Change (List ℕ)))
-    (last : Change (List ℕ)) → AreBelow (next + length changes) (mid.trees CHANGE_TREE)
-    → Wrote old mid next changes
-    → SetsTree mid new CHANGE_TREE (put_row (row_of (next + length changes) last))
-    → Wrote old new next (changes ++ last ∷ [])
-    × AreBelow (next + length changes + 1) (new.trees CHANGE_TREE)
-wrote_more old mid new next changes last below wrote sets =
-    let id = next + length changes in
-    let row = row_of id last in
-    let all = subst
-    (λ v. AllByRecursion (λ r. value_cmp (rowid r) v ≡ Less) (mid.trees CHANGE_TREE))
-    (sym (rowid_of id last)) below in
-    let put = ap (λ (v : View). v.trees CHANGE_TREE) sets.is
-    ∙ put_last row (mid.trees CHANGE_TREE) all in (
-      record {
-        rows = put ∙ ap (λ rows. rows ++ row ∷ []) wrote.rows
-            ∙ append_assoc (old.trees CHANGE_TREE) (rows_from next changes) (row ∷ [])
-            ∙ ap (λ rows. old.trees CHANGE_TREE ++ rows) (sym (rows_last next changes last));
-        others = λ t other. ap (λ (v : View). v.trees t) sets.is ∙ at_other mid new _ t other
-            ∙ wrote.others t other;
-        shape = ap (λ (v : View). v.shape) sets.is ∙ wrote.shape;
-        sound = ap (λ (v : View). v.is_broken) sets.is ∙ wrote.sound;
-      },
-      subst (AreBelow (id + 1)) (sym put) (below_next id last (mid.trees CHANGE_TREE) below),
-    )
+-- the row of one more change, in place of those that it replaces
+pub wrote_one : (old mid new : View) (id : ℕ) (change : Change (List ℕ))
+    → AreBelow id (old.trees CHANGE_TREE) → Spares old mid change
+    → SetsTree mid new CHANGE_TREE (put_row (row_of id change)) → Wrote old new (id + 1) (change ∷ [])
+wrote_one old mid new id change below spares sets =
+    let wrote = wrote_row mid new id change (spares.below id below) sets in
+    record {
+      kept = wrote.kept ∙ spares.kept;
+      below = wrote.below;
+      shape = wrote.shape ∙ spares.shape;
+    }
 
 -- one turn of the loop over changes
 pub wrote_step : {X : Type 0} (text : X → Change (List ℕ)) (xs : List X) (i : ℕ) (d : X)
     (old mid new : View) (next id : ℕ) → i < length xs → id ≡ next + i
-    → AreBelow id (mid.trees CHANGE_TREE) → Wrote old mid next (map text (take i xs))
-    → SetsTree mid new CHANGE_TREE (put_row (row_of id (text (get_or xs i d))))
-    → Wrote old new next (map text (take (i + 1) xs)) × AreBelow (id + 1) (new.trees CHANGE_TREE)
-wrote_step text xs i d old mid new next id lt is below wrote sets =
+    → Wrote old mid (next + i) (map text (take i xs))
+    → Wrote mid new (id + 1) (text (get_or xs i d) ∷ [])
+    → Wrote old new (next + (i + 1)) (map text (take (i + 1) xs))
+wrote_step text xs i d old mid new next id lt is wrote one =
     let done = map text (take i xs) in
     let last = text (get_or xs i d) in
-    let count : length done ≡ i =
-    length-map (take i xs) text ∙ length-take-le i xs (omega arith) in
-    let at : id ≡ next + length done = is ∙ ap (λ n. next + n) (sym count) in
-    let both = wrote_more old mid new next done last
-    (subst (λ n. AreBelow n (mid.trees CHANGE_TREE)) at below) wrote
-    (subst (λ n. SetsTree mid new CHANGE_TREE (put_row (row_of n last))) at sets) in
+    let start = kept_in old.trees in
     let longer : map text (take (i + 1) xs) ≡ done ++ last ∷ [] =
-    ap (map text) (take_more xs i d lt) ∙ map-append text (take i xs) (get_or xs i d ∷ []) in (
-      subst (Wrote old new next) (sym longer) both.0,
-      subst (λ n. AreBelow (n + 1) (new.trees CHANGE_TREE)) (sym at) both.1,
-    )
+    ap (map text) (take_more xs i d lt) ∙ map-append text (take i xs) (get_or xs i d ∷ []) in
+    record {
+      kept = one.kept ∙ ap (λ kept. committed kept (last ∷ [])) wrote.kept
+          ∙ sym (committed_append start done (last ∷ [])) ∙ ap (committed start) (sym longer);
+      below = subst (λ n. AreBelow n (new.trees CHANGE_TREE)) (omega (arith, is)) one.below;
+      shape = one.shape ∙ wrote.shape;
+    }

@@ -1,5 +1,5 @@
 -- A row for each change that is kept, in a table that any SQLite reads.
-use Rattle.std.specs.Prelude.{ℕ, ◌+◌, ◌==◌, pos, if◌then◌else◌, List, [], ◌∷◌, map}
+use Rattle.std.specs.Prelude.{ℕ, ◌==◌, pos, if◌then◌else◌, List, [], ◌∷◌, map}
 use Rattle.sqlite_value.specs.declared.value.Value.{Value}
 use Rattle.sqlite_value.specs.declared.value.Value.TheVariants.{Null, Int, Text}
 use Rattle.sqlite_value.specs.Order.{Row, column, bytes}
@@ -43,11 +43,6 @@ change_with k room number text =
 abbrev pub change_of : Row → Change (List ℕ)
 change_of r = change_with (number_of (column r 2)) (bytes (column r 3)) (number_of (column r 4))
     (bytes (column r 5))
-
--- the rows of changes, the first of them with that rowid
-abbrev pub rows_from : ℕ → List (Change (List ℕ)) → List Row
-rows_from id [] = []
-rows_from id (change ∷ changes) = row_of id change ∷ rows_from (id + 1) changes
 
 -- the epoch, which the first row of the other table has
 abbrev pub epoch_of : List Row → ℕ

@@ -2,10 +2,10 @@
 ghost use Rattle.std.specs.Prelude.{◌≡◌, IfOk, map};
 ghost use Rattle.sqlite_trees.specs.View.{IsClean};
 ghost use Rattle.sqlite_store.specs.FileStore.{view};
+ghost use Rattle.relay_store.specs.Kept.{begun, committed};
 ghost use Rattle.relay_store.specs.Texts.{owned};
-ghost use Rattle.relay_store_sqlite.specs.Rows.{change_of};
+ghost use Rattle.relay_store_sqlite.specs.Rows.{kept_in};
 ghost use Rattle.relay_store_sqlite.specs.Table.{IsReady};
-ghost use Rattle.relay_store_sqlite.specs.declared.write.TheConstants.{CHANGE_TREE};
 
 use crate::opening::{Opened, adopt, statement_fault};
 use relay_store::StoreFault;
@@ -30,8 +30,11 @@ pub fn open<S: Start>(
 ) -> Result<Opened<FileStore<FileFrom<S>>>, StoreFault>
     ensures settled { IfOk result (λ o. IsClean (view o.store.store) →
         IsReady (view o.store.store) o.store.next) }
-    ensures changes { IfOk result (λ o. IsClean (view o.store.store) → map owned o.changes.items
-        ≡ map change_of ((view o.store.store).committed CHANGE_TREE)) }
+    ensures epoch { IfOk result (λ o. IsClean (view o.store.store) →
+        o.epoch ≡ (kept_in (view o.store.store).committed).epoch) }
+    ensures kept { IfOk result (λ o. IsClean (view o.store.store) →
+        kept_in (view o.store.store).committed
+        ≡ committed (begun o.epoch) (map owned o.changes.items)) }
 {
     match Connection::open_from(rt, path, false, start) {
         Ok(conn) => adopt(rt.alloc(), conn, new_epoch),

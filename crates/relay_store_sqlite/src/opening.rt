@@ -1,10 +1,10 @@
 //! A database as a store: made if it is empty, refused if it is another program's.
 ghost use Rattle.std.specs.Prelude.{◌≡◌, IfOk, map};
 ghost use Rattle.sqlite_trees.specs.View.{IsClean};
+ghost use Rattle.relay_store.specs.Kept.{begun, committed};
 ghost use Rattle.relay_store.specs.Texts.{owned};
-ghost use Rattle.relay_store_sqlite.specs.Rows.{change_of};
+ghost use Rattle.relay_store_sqlite.specs.Rows.{kept_in};
 ghost use Rattle.relay_store_sqlite.specs.Table.{IsReady};
-ghost use Rattle.relay_store_sqlite.specs.declared.write.TheConstants.{CHANGE_TREE};
 
 use crate::store::SqliteStore;
 use relay_store::{Change, StoreFault};
@@ -67,11 +67,10 @@ fn has_tables<S: Alter>(conn: &mut Connection<S>) -> Result<bool, Error> {
     Ok(known == 2 && number(conn, "SELECT count(*) FROM sqlite_schema")? == 2)
 }
 
-/// Makes the tables in an empty database, or checks those that there are. Returns the epoch.
-fn prepare<S: Alter>(conn: &mut Connection<S>, epoch: i64) -> Result<i64, StoreFault> {
+/// Makes the tables in an empty database, or checks those that there are.
+fn prepare<S: Alter>(conn: &mut Connection<S>, epoch: i64) -> Result<(), StoreFault> {
     if number(conn, "SELECT count(*) FROM sqlite_schema").map_err(statement_fault)? == 0 {
-        make(conn, epoch).map_err(statement_fault)?;
-        return Ok(epoch);
+        return make(conn, epoch).map_err(statement_fault);
     }
     let version = number(conn, "SELECT version FROM meta WHERE id = 1").map_err(statement_fault)?;
     if version != VERSION {
@@ -80,7 +79,7 @@ fn prepare<S: Alter>(conn: &mut Connection<S>, epoch: i64) -> Result<i64, StoreF
     if !has_tables(conn).map_err(statement_fault)? {
         return Err(StoreFault::NotAStore);
     }
-    number(conn, "SELECT epoch FROM meta WHERE id = 1").map_err(statement_fault)
+    Ok(())
 }
 
 /// A store that was opened, and what it keeps.
@@ -110,18 +109,17 @@ pub fn adopt<S: Alter + Drop>(
 ) -> Result<Opened<S>, StoreFault>
     ensures settled { IfOk result (λ o. IsClean (S.Store.view o.store.store) →
         IsReady (S.Store.view o.store.store) o.store.next) }
-    ensures changes { IfOk result (λ o. IsClean (S.Store.view o.store.store) →
-        map owned o.changes.items
-        ≡ map change_of ((S.Store.view o.store.store).committed CHANGE_TREE)) }
+    ensures epoch { IfOk result (λ o. IsClean (S.Store.view o.store.store) →
+        o.epoch ≡ (kept_in (S.Store.view o.store.store).committed).epoch) }
+    ensures kept { IfOk result (λ o. IsClean (S.Store.view o.store.store) →
+        kept_in (S.Store.view o.store.store).committed
+        ≡ committed (begun o.epoch) (map owned o.changes.items)) }
 {
     let Ok(new_epoch) = i64::try_from(new_epoch) else {
         return Err(StoreFault::TooBig);
     };
-    let epoch = prepare(&mut conn, new_epoch)?;
-    let Ok(epoch) = u64::try_from(epoch) else {
-        return Err(StoreFault::Damaged);
-    };
-    let (store, changes) = SqliteStore::over(alloc, conn.into_store())?;
+    prepare(&mut conn, new_epoch)?;
+    let (store, epoch, changes) = SqliteStore::over(alloc, conn.into_store())?;
     Ok(Opened {
         store,
         epoch,

@@ -10,11 +10,13 @@ ghost use Rattle.relay_store.specs.Texts.{owned};
 ghost use Rattle.relay_store.specs.declared.fault.StoreFault.TheVariants.{Damaged};
 ghost use Rattle.relay_store_sqlite.specs.Fault.{IsUnread};
 ghost use Rattle.relay_store_sqlite.specs.Rows.{change_of, change_with};
-ghost use Rattle.relay_store_sqlite.specs.Table.{IsNextRow, WasRead};
+ghost use Rattle.relay_store_sqlite.specs.Table.{HasEpoch, IsNextRow, WasRead};
+ghost use Rattle.relay_store_sqlite.specs.declared.write.TheConstants.{META_TREE};
 
 use crate::fault::fault_of;
+use crate::live::LiveRows;
 use crate::row::{BEGIN, DROP_WILL, EDIT, END, LEAVE_WILL, RAISE_FLOOR};
-use crate::write::CHANGE_TREE;
+use crate::write::{CHANGE_TREE, META_TREE};
 use relay_store::{Change, StoreFault};
 use sqlite_trees::store::{Direction, Store};
 use sqlite_value::row::Row;
@@ -25,13 +27,33 @@ use std::alloc::Global;
 const CURSOR: u16 = 0;
 
 /// The number in a column. `Damaged` if there is none.
-fn number_at(row: &Row, at: usize) -> Result<u64, StoreFault>
+pub(crate) fn number_at(row: &Row, at: usize) -> Result<u64, StoreFault>
     ensures ok { IfOk result (λ n. column row.now at ≡ Int (pos n)) }
     ensures err { IfErr result (λ fault. fault ≡ Damaged) }
 {
     match row.get(at) {
         ValueRef::Int(n) => u64::try_from(n).map_err(|_| StoreFault::Damaged),
         _ => Err(StoreFault::Damaged),
+    }
+}
+
+/// Reads the epoch, by way of a row. `Damaged` if there is none.
+pub(crate) fn read_epoch<S: Store>(store: &mut S, row: &mut Row) -> Result<u64, StoreFault>
+    requires table { IsClean (S.view store.old) → (S.view store.old).shape META_TREE ≡ Table }
+    ensures read { IfOk result (λ epoch. IsClean (S.view store.new) →
+        HasEpoch (S.view store.old) (S.view store.new) epoch) }
+    ensures quiet { IsQuiet S.view S.faults S.recovers S.is_shielded store.old store.new }
+    ensures cause { IsClean (S.view store.new) →
+        HasCause (S.faults store.old) (S.faults store.new) result }
+{
+    row.clear();
+    if let Err(error) = store.seek(CURSOR, META_TREE, row, Direction::Forward) {
+        return Err(fault_of(error));
+    }
+    match store.next(CURSOR, row) {
+        Ok(true) => number_at(row, 2),
+        Ok(false) => Err(StoreFault::Damaged),
+        Err(error) => Err(fault_of(error)),
     }
 }
 
@@ -105,11 +127,12 @@ fn change_with(
     Err(StoreFault::Damaged)
 }
 
-/// Adds the change of a row, and returns the rowid after its own. `Damaged` if that is not above
+/// Adds the change of a row, notes its rowid, and returns the rowid after its own. `Damaged` if that is not above
 /// all rowids so far, which are below `next`.
 fn add_row(
     alloc: Global,
     row: &Row,
+    live: &mut LiveRows,
     next: u64,
     all: &mut Vec<Change<String>>,
 ) -> Result<u64, StoreFault>
@@ -122,15 +145,18 @@ fn add_row(
     if id < next || id == u64::MAX {
         return Err(StoreFault::Damaged);
     }
-    all.push(change_at(alloc, row)?)?;
+    let change = change_at(alloc, row)?;
+    live.note(id, change.borrow())?;
+    all.push(change)?;
     Ok(id + 1)
 }
 
-/// Reads all changes, in order, by way of a row. Returns also a rowid above all of theirs.
+/// Reads all changes, in order, by way of a row, and notes their rowids. Returns also a rowid above all of theirs.
 pub(crate) fn read_all<S: Store>(
     alloc: Global,
     store: &mut S,
     row: &mut Row,
+    live: &mut LiveRows,
 ) -> Result<(Vec<Change<String>>, u64), StoreFault>
     requires table { IsClean (S.view store.old) → (S.view store.old).shape CHANGE_TREE ≡ Table }
     ensures read { IfOk result (λ r. IsClean (S.view store.new) →
@@ -147,7 +173,7 @@ pub(crate) fn read_all<S: Store>(
     }
     for _ in 0..u64::MAX {
         match store.next(CURSOR, row) {
-            Ok(true) => next = add_row(alloc, row, next, &mut all)?,
+            Ok(true) => next = add_row(alloc, row, live, next, &mut all)?,
             Ok(false) => return Ok((all, next)),
             Err(error) => return Err(fault_of(error)),
         }

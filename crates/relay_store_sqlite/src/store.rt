@@ -1,5 +1,6 @@
 //! The store over a database.
-use crate::read::read_all;
+use crate::live::LiveRows;
+use crate::read::{read_all, read_epoch};
 use crate::write::{CHANGE_TREE, META_TREE, commit_all};
 use relay_store::{Change, Keeps, StoreFault};
 use sqlite_trees::store::{Alter, Shape, Store};
@@ -12,6 +13,8 @@ pub struct SqliteStore<S: Store> {
     store: S,
     /// The row that is written or read.
     row: Row,
+    /// The rows that a later change may replace.
+    live: LiveRows,
     /// The rowid of the next change, above all that there are.
     next: u64,
 }
@@ -20,22 +23,24 @@ impl<S: Alter + Drop> SqliteStore<S> {
     ghost use Rattle.std.specs.Prelude.{◌≡◌, IfOk, OnOk, map};
     ghost use Rattle.sqlite_trees.specs.View.{IsClean};
     ghost use Rattle.relay_store.specs.Texts.{owned};
-    ghost use Rattle.relay_store_sqlite.specs.Rows.{change_of};
+    ghost use Rattle.relay_store_sqlite.specs.Rows.{change_of, epoch_of};
     ghost use Rattle.relay_store_sqlite.specs.Table.{IsReady};
-    ghost use Rattle.relay_store_sqlite.specs.declared.write.TheConstants.{CHANGE_TREE};
+    ghost use Rattle.relay_store_sqlite.specs.declared.write.TheConstants.{META_TREE, CHANGE_TREE};
 
-    /// Takes the trees of a database that has the tables of a store, and reads its changes. What
-    /// was not committed is undone. `NotAStore` if it has other tables, `Damaged` if a row stands
+    /// Takes the trees of a database that has the tables of a store, and reads its epoch and its
+    /// changes. What was not committed is undone. `NotAStore` if it has other tables, `Damaged` if a row stands
     /// for no change, and `Closed` if an earlier failure shut the trees.
     pub(crate) fn over(
         alloc: Global,
         mut store: S,
-    ) -> Result<(SqliteStore<S>, Vec<Change<String>>), StoreFault>
+    ) -> Result<(SqliteStore<S>, u64, Vec<Change<String>>), StoreFault>
         ensures settled { IfOk result (λ r. IsClean (S.Store.view r.0.store) →
             IsReady (S.Store.view r.0.store) r.0.next) }
         ensures found { IfOk result (λ r. IsClean (S.Store.view r.0.store) →
             (S.Store.view r.0.store).committed ≡ (S.Store.view store).committed) }
-        ensures changes { IfOk result (λ r. IsClean (S.Store.view r.0.store) → map owned r.1.items
+        ensures epoch { IfOk result (λ r. IsClean (S.Store.view r.0.store) →
+            r.1 ≡ epoch_of ((S.Store.view r.0.store).committed META_TREE)) }
+        ensures changes { IfOk result (λ r. IsClean (S.Store.view r.0.store) → map owned r.2.items
             ≡ map change_of ((S.Store.view r.0.store).committed CHANGE_TREE)) }
     {
         store.rollback();
@@ -46,8 +51,16 @@ impl<S: Alter + Drop> SqliteStore<S> {
             return Err(StoreFault::NotAStore);
         }
         let mut row = Row::new(alloc);
-        let (changes, next) = read_all(alloc, &mut store, &mut row)?;
-        Ok((SqliteStore { store, row, next }, changes))
+        let epoch = read_epoch(&mut store, &mut row)?;
+        let mut live = LiveRows::new(alloc);
+        let (changes, next) = read_all(alloc, &mut store, &mut row, &mut live)?;
+        let opened = SqliteStore {
+            store,
+            row,
+            live,
+            next,
+        };
+        Ok((opened, epoch, changes))
     }
 
     /// Reads the changes that make what is kept out of an empty store of the same epoch.
@@ -62,7 +75,8 @@ impl<S: Alter + Drop> SqliteStore<S> {
             map owned all.items
             ≡ map change_of ((S.Store.view self.old.store).committed CHANGE_TREE)) }
     {
-        let (changes, _) = read_all(alloc, &mut self.store, &mut self.row)?;
+        let mut live = LiveRows::new(alloc);
+        let (changes, _) = read_all(alloc, &mut self.store, &mut self.row, &mut live)?;
         Ok(changes)
     }
 }
@@ -87,7 +101,13 @@ impl<S: Store> Keeps for SqliteStore<S> {
         let Some(after) = self.next.checked_add(changes.len() as u64) else {
             return Err(StoreFault::TooBig);
         };
-        commit_all(&mut self.store, &mut self.row, self.next, changes)?;
+        commit_all(
+            &mut self.store,
+            &mut self.row,
+            &mut self.live,
+            self.next,
+            changes,
+        )?;
         self.next = after;
         Ok(())
     }

@@ -133,3 +133,43 @@ fn a_database_keeps_changes(rt: HostRuntime) -> Result<(), Fail> {
     assert!(rt; words.is_some_and(|words| words.as_str() == "begin board 4 null;floor 12;"));
     Ok(())
 }
+
+fn begin(room: &str, revision: u64) -> Change<&str> {
+    Change::Begin {
+        room,
+        revision,
+        text: "{}",
+    }
+}
+
+fn edit(room: &str, revision: u64) -> Change<&str> {
+    Change::Edit {
+        room,
+        revision,
+        text: "[]",
+    }
+}
+
+#[test]
+fn a_database_removes_what_is_replaced(rt: HostRuntime) -> Result<(), Fail> {
+    let mut store = adopt(rt.alloc(), Connection::open_in_memory(rt.alloc())?, 7)?.store;
+    store.commit(&[
+        begin("board", 4),
+        edit("board", 6),
+        begin("lobby", 0),
+        edit("lobby", 1),
+    ])?;
+    store.commit(&[
+        Change::RaiseFloor { revision: 3 },
+        begin("board", 6),
+        edit("board", 9),
+    ])?;
+    store.commit(&[
+        Change::RaiseFloor { revision: 5 },
+        Change::End { room: "lobby" },
+    ])?;
+    let words = all_words(rt.alloc(), &store.read(rt.alloc())?);
+    let left = "begin board 6 {};edit board 9 [];floor 5;end lobby;";
+    assert!(rt; words.is_some_and(|words| words.as_str() == left));
+    Ok(())
+}

@@ -11,7 +11,7 @@ returns-in-Ok-clause-kept g c clean =
     let put = c.in_ok-put_all.ensures in
     let then : IsClean mid = omega (arith, c.commit.ensures.clean) in
     let first : IsClean old = omega (arith, put.quiet.clean) in
-    kept_after old mid (g.S.Store.view c.commit.new.self) c.args.next (map lent c.args.changes.now)
+    kept_after old mid (g.S.Store.view c.commit.new.self) _ (map lent c.args.changes.now)
     (c.requires.ready first).still (put.ok then) (c.in-Ok.ensures.ok clean)
 
 pub returns-in-Ok-clause-crash : goal.returns-in-Ok-clause-crash
@@ -21,7 +21,7 @@ returns-in-Ok-clause-crash g c clean db left =
     let put = c.in_ok-put_all.ensures in
     let then : IsClean mid = omega (arith, c.commit.ensures.clean) in
     let first : IsClean old = omega (arith, put.quiet.clean) in
-    left_after old mid c.args.next (map lent c.args.changes.now)
+    left_after old mid _ (map lent c.args.changes.now)
     (g.S.Store.recovers c.args.store.now) (g.S.Store.recovers c.put_all.new.store) db
     (c.requires.ready first).still (put.ok then) put.quiet.outcomes (c.commit.ensures.crash db left)
 
@@ -32,6 +32,6 @@ returns-in-Err-clause-crash g c clean db left =
     let put = c.in_ok-put_all.ensures in
     let then : IsClean mid = omega (arith, c.commit.ensures.clean) in
     let first : IsClean old = omega (arith, put.quiet.clean) in
-    left_after old mid c.args.next (map lent c.args.changes.now)
+    left_after old mid _ (map lent c.args.changes.now)
     (g.S.Store.recovers c.args.store.now) (g.S.Store.recovers c.put_all.new.store) db
     (c.requires.ready first).still (put.ok then) put.quiet.outcomes (c.commit.ensures.crash db left)

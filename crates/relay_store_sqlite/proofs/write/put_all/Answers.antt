@@ -14,10 +14,10 @@ loop-change-preserved g c =
     let before : IsClean (view l.store) = omega (arith, quiet.clean) in
     wrote_step lent c.args.changes.now l.change-index _ (view c.args.store.now) (view l.store)
     (view c.put_one.new.store) c.args.next l.id c.loop-change-test.true l.invariant.id
-    (l.invariant.below before) (l.invariant.wrote before) (c.in_ok-put_one.ensures.ok clean) in
+    (l.invariant.wrote before) (c.in_ok-put_one.ensures.ok clean) in
     record {
       id = omega (arith, l.invariant.id);
-      wrote = λ clean. (step clean).0;
-      below = λ clean. (step clean).1;
+      wrote = step;
+      below = λ clean. (c.in_ok-put_one.ensures.ok clean).below;
       quiet = quiet_then l.invariant.quiet quiet;
     }

@@ -11,7 +11,8 @@ invariant-loop-change g l =
     let done = map lent (take l.change-index l.changes) in
     record {
       id : l.id ≡ l.next + l.change-index;
-      wrote : IsClean (view l.store) → Wrote (view l.fn.store) (view l.store) l.next done;
+      wrote : IsClean (view l.store)
+          → Wrote (view l.fn.store) (view l.store) (l.next + l.change-index) done;
       below : IsClean (view l.store) → AreBelow l.id ((view l.store).trees CHANGE_TREE);
       quiet : IsQuiet view g.S.Store.faults g.S.Store.recovers g.S.Store.is_shielded l.fn.store
           l.store;
