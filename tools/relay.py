@@ -10,6 +10,7 @@ import time
 
 from build import DONE, PROGRAM, PROVED, Build, is_of, words_of
 from jobs import ROOT, alone_in, kit, run, say, start
+from misuse import misuse_of
 from sources import CODE, CRATES, OUT, WHOLE, Sources, below
 
 # A program without proofs, what was said of it, and the checksum of its sources.
@@ -60,6 +61,16 @@ def asked_of_itself(words):
     first, second = words if len(words) == 2 else ("", "")
     job = first if second in ("--help", "-h") else second if first == "help" else ""
     return HELP / f"{job}.txt" if job in JOBS else None
+
+
+def refuse_misuse(words):
+    job, *more = words
+    if job not in JOBS:
+        print(f"relay: no job or option {job}; ./relay --help names them", file=sys.stderr)
+        sys.exit(2)
+    if misuse := misuse_of(job, more, (HELP / f"{job}.txt").read_text()):
+        print(misuse, end="", file=sys.stderr)
+        sys.exit(2)
 
 
 def print_from(file):
@@ -137,16 +148,15 @@ def main(words):
         if file := asked_of_itself(more if first == "--try" else words):
             print_from(file)
         elif first == "--try":
+            refuse_misuse(more or ["script"])
             run_tried(more)
         elif first == "--check":
             check(more)
         elif words == ["--build"]:
             build_proved()
-        elif first in JOBS:
-            run_proved(words)
         else:
-            print(f"relay: no job or option {first}; ./relay --help names them", file=sys.stderr)
-            sys.exit(2)
+            refuse_misuse(words or ["script"])
+            run_proved(words)
     except KeyboardInterrupt:
         sys.exit(130)
 
