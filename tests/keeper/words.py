@@ -141,7 +141,9 @@ def an_older_state_is_listed_and_put_back(database):
             for revision in range(1, 4):
                 store.put(State("board", 7, revision, revision, revision * 1000))
             told, fault, status = run("restore", "board", "19700101T000001", "--store", where)
-            assert status == 1 and "a keeper runs on" in fault, fault
+            assert status == 1 and "a keeper runs on" in fault and "by --url" in fault, fault
+            _, fault, status = run("import", "--store", where)
+            assert status == 1 and fault.endswith(": stop it first\n"), fault
         told, _, status = run("restore", "--store", where, "board")
         assert status == 0 and [line.split()[0] for line in told.splitlines()] == [
             "19700101T000002.000Z",

@@ -83,7 +83,7 @@ def restoring(asked: argparse.Namespace) -> int:
         elif asked.url is not None:
             print(asyncio.run(restore_room(asked.url, store, *words)))
         else:
-            take(store)
+            take(store, "name its relay by --url, to restore the room there, or stop it first")
             print(restore_kept(store, *words))
     return 0
 

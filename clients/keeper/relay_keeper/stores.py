@@ -65,7 +65,7 @@ def check_relay(store: Store, relay: Optional[str]) -> None:
         raise BadStore(f"{store.where} has rooms of these relays: {names}; name one by --relay")
 
 
-def take(store: Store) -> None:
-    """`Taken` if another keeper holds the lease."""
+def take(store: Store, instead: str = "stop it first") -> None:
+    """`Taken` if another keeper holds the lease; `instead` is what to do then."""
     if not store.take():
-        raise Taken(f"a keeper runs on {store.where}")
+        raise Taken(f"a keeper runs on {store.where}: {instead}")
