@@ -1,5 +1,5 @@
 """A client under test, over the lines of docs/CONFORMANCE.md."""
-import json, queue, subprocess, threading
+import contextlib, json, queue, subprocess, threading
 
 URL = "ws://127.0.0.1:1/rooms/board"
 """A room's address at which nothing listens: the client's connections are played over the driver's
@@ -22,9 +22,12 @@ class Failed(Exception):
 class Driver:
     def __init__(self, command):
         pipe = subprocess.PIPE
-        self.process = subprocess.Popen(
-            command, stdin=pipe, stdout=pipe, text=True, encoding="utf-8"
-        )
+        try:
+            self.process = subprocess.Popen(
+                command, stdin=pipe, stdout=pipe, text=True, encoding="utf-8"
+            )
+        except OSError as error:
+            raise Failed(f"the driver cannot be started: {error.strerror}") from error
         self.lines = queue.Queue()
         self.traits = []  # what the driver says of the client
         # The relay's last text, and what was held when the client was looked at last.
@@ -41,7 +44,8 @@ class Driver:
         self.look()
 
     def quit(self):
-        self.process.stdin.close()
+        with contextlib.suppress(BrokenPipeError):
+            self.process.stdin.close()
         try:
             return self.process.wait(PATIENCE)
         except subprocess.TimeoutExpired:

@@ -23,22 +23,27 @@ class Played:
 
 
 def traits_of(command):
-    """Returns what the driver says of its client."""
-    driver = Driver(command)
+    """Returns what the driver says of its client. Ends the program if it says nothing."""
     try:
-        driver.begin([""])
-        driver.look()
+        driver = Driver(command)
+        try:
+            driver.begin([""])
+            driver.look()
+        finally:
+            driver.quit()
     except Failed as failed:
-        sys.exit(f"tests/conformance: {failed}")
-    finally:
-        driver.quit()
+        print(f"FAILED {' '.join(command)}: {failed}\n0 passed, 1 failed")
+        sys.exit(1)
     return driver.traits
 
 
 def play(command, traits, case):
     if not case.concerns(traits):
         return Played(case.name, asked=False)
-    driver = Driver(command)
+    try:
+        driver = Driver(command)
+    except Failed as failed:
+        return Played(case.name, wrong=[str(failed)])
     try:
         case.act(driver)
         driver.end()
