@@ -18,9 +18,13 @@ listed name (field ∷ fields) =
     if str_eq_ignore_ascii_case field.0 name then field.1 ++ 44 ∷ listed name fields
     else listed name fields
 
+-- If-Match is `*`: it holds only where something is, at whatever revision
+abbrev pub is_star : List ℕ → Bool
+is_star list = bytes_eq list (codes "*,")
+
 -- If-Match asks for no revision: it is not there, or it is `*`
 abbrev pub is_any : List ℕ → Bool
-is_any list = bytes_eq list [] || bytes_eq list (codes "*,")
+is_any list = bytes_eq list [] || is_star list
 
 -- If-Match holds at the revision with this tag: it asks for none, or for this one and no other
 abbrev pub matches : RevisionTag → List ℕ → Bool

@@ -1,6 +1,6 @@
 //! Tests of which requests are accepted, and why the others are refused.
 use crate::shared::shown;
-use relay_admin::{Ask, MAX_BODY, MAX_HEAD, RevisionTag, ask};
+use relay_admin::{Ask, EditRequest, MAX_BODY, MAX_HEAD, RevisionTag, ask};
 use relay_test_stream::{Subject, cut, play};
 use std::alloc::{AllocGlobal, Global};
 
@@ -196,6 +196,15 @@ if_match If-Match: "5-7"\r\nIf-Match: "5-7"\r\n => false
 if_match If-Match:\r\n => false
 if_match If-None-Match: "5-8"\r\n => true
 
+# Holds only of a room that is there exactly if If-Match is `*`.
+is_star If-Match: *\r\n => true
+is_star if-match:  *  \r\n => true
+is_star  => false
+is_star If-Match: "5-7"\r\n => false
+is_star If-Match: *, "5-7"\r\n => false
+is_star If-Match: "*"\r\n => false
+is_star If-None-Match: *\r\n => false
+
 # Names that tag exactly if If-None-Match lists `*` or the tag, strong or weak.
 if_none_match  => false
 if_none_match If-None-Match: *\r\n => true
@@ -279,6 +288,7 @@ impl<R: AllocGlobal> Subject<R> for Requests {
         match cut(act) {
             ("ask", text) => answer_to(rt.alloc(), text),
             ("if_match", fields) => holds(rt.alloc(), fields),
+            ("is_star", fields) => is_star(rt.alloc(), fields),
             ("if_none_match", fields) => is_named(rt.alloc(), fields),
             _ => None,
         }
@@ -305,11 +315,24 @@ fn asked(alloc: Global, text: &str) -> Option<Ask> {
 
 /// Says whether `If-Match` of an edit with these fields holds.
 fn holds(alloc: Global, fields: &str) -> Option<String> {
+    shown(
+        alloc,
+        edit(alloc, fields)?.if_match.matches(alloc, TAG).ok()?,
+    )
+}
+
+/// Says whether `If-Match` of an edit with these fields holds only of a room that is there.
+fn is_star(alloc: Global, fields: &str) -> Option<String> {
+    shown(alloc, edit(alloc, fields)?.if_match.is_star())
+}
+
+/// The edit with these fields.
+fn edit(alloc: Global, fields: &str) -> Option<EditRequest> {
     let text = format!(in alloc; "{EDIT}{fields}\r\n").ok()?;
-    let Some(Ask::Edit(edit)) = asked(alloc, text.as_str()) else {
-        return None;
-    };
-    shown(alloc, edit.if_match.matches(alloc, TAG).ok()?)
+    match asked(alloc, text.as_str()) {
+        Some(Ask::Edit(edit)) => Some(edit),
+        _ => None,
+    }
 }
 
 /// Says whether `If-None-Match` of a request with these fields names the revision.

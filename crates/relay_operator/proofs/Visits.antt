@@ -3,7 +3,7 @@ use Rattle.std.proofs.Common.{◌≡◌, ◌↔◌, ℕ, true, List, string_byte
 use Rattle.std.proofs.Common.{Some, None, IsSome, option_map, Result, Ok, Err, IfOk, sym, ap, subst}
 use Rattle.std.proofs.Common.{◌∙◌}
 use Rattle.relay_admin.specs.Asking.{IsJson}
-use Rattle.relay_admin.specs.Conditions.{is_named, matches}
+use Rattle.relay_admin.specs.Conditions.{is_named}
 use Rattle.relay_admin.specs.Responses.{response_text}
 use Rattle.relay_admin.specs.declared.response.Response.{Response}
 use Rattle.relay_admin.specs.declared.response.Response.TheVariants as response
@@ -17,7 +17,7 @@ use Rattle.relay_link.specs.declared.visit.Visit.{Visit}
 use Rattle.relay_room.specs.Room.{revision}
 use Rattle.relay_operator.specs.Visiting.{AnswersVisit, IsVisitResponse, PreparesBody, PreparesEdit}
 use Rattle.relay_operator.specs.Visiting.{PreparesIf, PreparesPart, PreparesRead, PreparesReadBy}
-use Rattle.relay_operator.specs.Visiting.{Responds, SaysNotJson, revision_named, tag_of}
+use Rattle.relay_operator.specs.Visiting.{Responds, SaysNotJson, holds_at, revision_named, tag_of}
 use Rattle.relay_operator.specs.declared.room_request.Prepared.{Prepared}
 use Rattle.relay_operator.specs.declared.room_request.Prepared.TheVariants as prepared
 use Rattle.relay_operator.specs.declared.room_request.RoomRequest.{RoomRequest}
@@ -78,16 +78,15 @@ no_json (Some text) is json holds = absurd (cc is)
 pub prepares_not_json : {E : Type 0} (hub : State) (request : EditRequest) (body : List ℕ)
     (text : Option (String Global)) (tag : RevisionTag) (reply : Response)
     (made : Result Prepared E) → tag ≡ tag_of hub (revision_named (string_bytes request.room) hub)
-    → matches tag request.if_match ≡ true → text ≡ None → (IsSome text ↔ IsJson body)
+    → holds_at hub request tag ≡ true → text ≡ None → (IsSome text ↔ IsJson body)
     → SaysNotJson reply → IfOk made (Responds reply) → IfOk made (PreparesEdit hub request body)
 prepares_not_json hub request body text tag reply (Ok (prepared.Response words)) is_tag holds none
     json says responds =
     let base : PreparesBody request body (prepared.Response words) =
     (no_json text none json, reply, says, responds) in
-    let given : PreparesIf (matches tag request.if_match) tag request body
-    (prepared.Response words) =
+    let given : PreparesIf (holds_at hub request tag) tag request body (prepared.Response words) =
     subst (λ b. PreparesIf b tag request body (prepared.Response words)) (sym holds) base in
-    subst (λ t. PreparesIf (matches t request.if_match) t request body (prepared.Response words))
+    subst (λ t. PreparesIf (holds_at hub request t) t request body (prepared.Response words))
     is_tag given
 prepares_not_json hub request body text tag reply (Ok (prepared.Visit visit)) is_tag holds none json
     says responds = absurd responds

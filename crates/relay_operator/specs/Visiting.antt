@@ -1,9 +1,9 @@
 -- The answer to a request for a room: by the visit that it comes to, or without one.
-use Rattle.std.specs.Prelude.{◌≡◌, ◌≢◌, ℕ, ◌+◌, Bool, true, false, List, [], slice_get, Option}
-use Rattle.std.specs.Prelude.{Some, None, string_bytes, Result, Ok, Err}
+use Rattle.std.specs.Prelude.{◌≡◌, ◌≢◌, ℕ, ◌+◌, ◌&&◌, Bool, true, false, not, List, [], slice_get}
+use Rattle.std.specs.Prelude.{Option, Some, None, string_bytes, Result, Ok, Err}
 use Rattle.json.specs.Lex.{tokens}
 use Rattle.relay_admin.specs.Asking.{IsJson, watch_tokens, edit_tokens, snapshot_text}
-use Rattle.relay_admin.specs.Conditions.{is_named, matches}
+use Rattle.relay_admin.specs.Conditions.{is_named, is_star, matches}
 use Rattle.relay_admin.specs.Outcome.{outcome_of}
 use Rattle.relay_admin.specs.Responses.{response_text}
 use Rattle.relay_admin.specs.declared.outcome.Outcome.{Outcome}
@@ -23,6 +23,7 @@ use Rattle.relay_hub.specs.declared.fault.ForgetFault.{ForgetFault}
 use Rattle.relay_hub.specs.declared.fault.ForgetFault.TheVariants as forget
 use Rattle.relay_hub.specs.declared.fault.OpenFault.{OpenFault}
 use Rattle.relay_hub.specs.declared.fault.OpenFault.TheVariants as opening
+use Rattle.relay_link.specs.EntryRules.{is_there}
 use Rattle.relay_link.specs.declared.visit.Visit.{Visit}
 use Rattle.relay_link.specs.declared.visit_outcome.VisitOutcome.{VisitOutcome}
 use Rattle.relay_link.specs.declared.visit_outcome.VisitOutcome.TheVariants as visit
@@ -90,7 +91,15 @@ PreparesBody request body (prepared.Visit visit) =
     IsJson body × (string_bytes visit.room ≡ string_bytes request.room)
     × (visit.access ≡ ReadWrite) × (tokens visit.text ≡ edit_tokens None (tokens body))
 
--- An edit is made by a visit, if its condition holds at the room's present tag.
+-- an edit asks for a room that is there, by `*`, and there is none
+abbrev pub lacks_room : State → EditRequest → Bool
+lacks_room hub request = is_star request.if_match && not (is_there hub (string_bytes request.room))
+
+-- the condition of an edit holds at its room's present tag
+abbrev pub holds_at : State → EditRequest → RevisionTag → Bool
+holds_at hub request tag = matches tag request.if_match && not (lacks_room hub request)
+
+-- An edit is made by a visit, if its condition holds.
 abbrev pub PreparesIf : Bool → RevisionTag → EditRequest → List ℕ → Prepared → Type 0
 PreparesIf true tag request body found = PreparesBody request body found
 PreparesIf false tag request body found = Responds (response.OtherRevision tag) found
@@ -98,7 +107,7 @@ PreparesIf false tag request body found = Responds (response.OtherRevision tag) 
 abbrev pub PreparesEdit : State → EditRequest → List ℕ → Prepared → Type 0
 PreparesEdit hub request body found =
     let tag = tag_of hub (revision_named (string_bytes request.room) hub)
-    in PreparesIf (matches tag request.if_match) tag request body found
+    in PreparesIf (holds_at hub request tag) tag request body found
 
 -- the response if no session could be opened
 abbrev pub refused_response : OpenFault → Response

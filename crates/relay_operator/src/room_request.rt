@@ -3,8 +3,8 @@ ghost use Rattle.std.specs.Prelude.{◌≡◌, IfOk, string_bytes};
 ghost use Rattle.relay_operator.specs.RoomRequest.{asked_of_room, is_of};
 ghost use Rattle.relay_operator.specs.Visiting.{AnswersTexts, AnswersVisit, IsVisitResponse};
 ghost use Rattle.relay_operator.specs.Visiting.{PreparesEdit, PreparesRead, Responds, SaysNotJson};
-ghost use Rattle.relay_operator.specs.Visiting.{forgotten_response, refused_response};
-ghost use Rattle.relay_operator.specs.Visiting.{revision_named, tag_of};
+ghost use Rattle.relay_operator.specs.Visiting.{forgotten_response, holds_at, lacks_room};
+ghost use Rattle.relay_operator.specs.Visiting.{refused_response, revision_named, tag_of};
 
 use relay_access::{Access, is_room_name};
 use relay_admin::{
@@ -105,7 +105,8 @@ pub(crate) fn prepare_read(
     }))
 }
 
-/// Prepares the visit that makes an edit. A room that is not there counts as at revision 0.
+/// Prepares the visit that makes an edit. A room that is not there counts as at revision 0, and is
+/// not what `If-Match: *` asks for.
 pub(crate) fn prepare_edit(
     alloc: Global,
     hub: &Hub,
@@ -115,7 +116,7 @@ pub(crate) fn prepare_edit(
     ensures { IfOk result (PreparesEdit hub.now request.now body.now) }
 {
     let tag = tag_of(hub, revision_named(hub, request.room.as_str()));
-    if !request.if_match.matches(alloc, tag)? {
+    if !holds_at(alloc, hub, request, tag)? {
         return respond(alloc, &Response::OtherRevision(tag));
     }
     match edit_text(alloc, None, body)? {
@@ -126,6 +127,25 @@ pub(crate) fn prepare_edit(
         })),
         None => respond(alloc, &not_json()),
     }
+}
+
+/// Returns true if the condition of an edit holds at its room's present tag.
+fn holds_at(
+    alloc: Global,
+    hub: &Hub,
+    request: &EditRequest,
+    tag: RevisionTag,
+) -> Result<bool, AllocError>
+    ensures { IfOk result (λ holds. holds ≡ holds_at hub.now request.now tag) }
+{
+    Ok(request.if_match.matches(alloc, tag)? && !lacks_room(hub, request))
+}
+
+/// Returns true if the edit asks for a room that is there, by `If-Match: *`, and there is none.
+fn lacks_room(hub: &Hub, request: &EditRequest) -> bool
+    ensures { result ≡ lacks_room hub.now request.now }
+{
+    request.if_match.is_star() && hub.room_named(request.room.as_str()).is_none()
 }
 
 /// The present revision of a room; 0 of one that is not there.

@@ -3,7 +3,7 @@ ghost use Rattle.std.specs.Prelude.{◌≡◌, ◌++◌, ◌∷◌, IfOk, OnOk, 
 ghost use Rattle.std.specs.Str.{str_eq_ignore_ascii_case};
 ghost use Rattle.httparse.specs.Borrowed.{header_parts};
 ghost use Rattle.relay_http_head.specs.Head.{lists};
-ghost use Rattle.relay_admin.specs.Conditions.{listed, is_any, matches, is_named};
+ghost use Rattle.relay_admin.specs.Conditions.{listed, is_any, is_star, matches, is_named};
 
 use crate::room::revision_tag::RevisionTag;
 use httparse::Header;
@@ -68,9 +68,27 @@ impl EntityTags {
         matches!(self.list.as_slice(), [] | [b'*', b','])
     }
 
-    /// Returns true if `If-Match` holds at the revision with this tag: it asks for none, or lists
-    /// this tag alone (RFC 9110, section 13.1.1). A weak tag never holds, nor does a list of
-    /// several. If memory runs out, it returns `AllocError`.
+    /// True if `If-Match` is `*`: it holds only of a room that is there, at whatever revision (RFC
+    /// 9110, section 13.1.1).
+    ///
+    /// ```
+    /// let head = "PATCH /rooms/board HTTP/1.1\r\nHost: localhost\r\nIf-Match: *\r\n";
+    /// let fields = "Content-Type: application/json-patch+json\r\nContent-Length: 2\r\n";
+    /// let asked = format!(in alloc; "{head}{fields}\r\n[]").ok()?;
+    /// let Ask::Edit(edit) = ask(alloc, asked.as_bytes()).ok()? else {
+    ///     return None;
+    /// };
+    /// assert!(rt; edit.if_match.is_star() && edit.if_match.is_any());
+    /// ```
+    pub fn is_star(&self) -> bool
+        ensures { result ≡ is_star self.now }
+    {
+        matches!(self.list.as_slice(), [b'*', b','])
+    }
+
+    /// Returns true if `If-Match` holds at the revision with this tag, of a room that is there: it
+    /// asks for none, or lists this tag alone (RFC 9110, section 13.1.1). A weak tag never holds,
+    /// nor does a list of several. If memory runs out, it returns `AllocError`.
     ///
     /// ```
     /// let head = "PATCH /rooms/board HTTP/1.1\r\nHost: localhost\r\nIf-Match: \"5-7\"\r\n";

@@ -11,5 +11,5 @@ returns-in-None c =
     c.tag_of-tag.result c.not_json.result c.respond-in-None.result
     (c.tag_of-tag.ensures ∙ ap (tag_of hub) (c.revision_named.ensures
     ∙ ap (λ name. revision_named name hub) c.as_str.ensures.value))
-    (sym c.in_ok-matches.ensures ∙ c.if-not-branch.false) c.in-None.is c.in_ok-text.ensures.json
+    (sym c.in_ok-holds_at.ensures ∙ c.if-not-branch.false) c.in-None.is c.in_ok-text.ensures.json
     c.not_json.ensures c.respond-in-None.ensures
