@@ -63,7 +63,9 @@ def asked_of_itself(words):
     return HELP / f"{job}.txt" if job in JOBS else None
 
 
-def refuse_misuse(words):
+def answer_at_once(words):
+    """Ends the program if these words are of no job, or its job does not take them, or are for its
+    help."""
     job, *more = words
     if job not in JOBS:
         print(f"relay: no job or option {job}; ./relay --help names them", file=sys.stderr)
@@ -71,6 +73,9 @@ def refuse_misuse(words):
     if misuse := misuse_of(job, more, (HELP / f"{job}.txt").read_text()):
         print(misuse, end="", file=sys.stderr)
         sys.exit(2)
+    if "-h" in more or "--help" in more:
+        print_from(HELP / f"{job}.txt")
+        sys.exit(0)
 
 
 def print_from(file):
@@ -148,14 +153,14 @@ def main(words):
         if file := asked_of_itself(more if first == "--try" else words):
             print_from(file)
         elif first == "--try":
-            refuse_misuse(more or ["script"])
+            answer_at_once(more or ["script"])
             run_tried(more)
         elif first == "--check":
             check(more)
         elif words == ["--build"]:
             build_proved()
         else:
-            refuse_misuse(words or ["script"])
+            answer_at_once(words or ["script"])
             run_proved(words)
     except KeyboardInterrupt:
         sys.exit(130)
