@@ -16,9 +16,10 @@ use Rattle.relay_hub.specs.declared.config.HubConfig.{HubConfig}
 use Rattle.relay_hub.specs.declared.event.Answer.{Answer}
 use Rattle.relay_hub.specs.declared.event.Answer.TheVariants.{Opened, NotOpened, Heard, Drawn}
 use Rattle.relay_hub.specs.declared.event.Answer.TheVariants.{Closed, WillDone, NoWill, Forgotten}
-use Rattle.relay_hub.specs.declared.event.Answer.TheVariants.{NotForgotten, NoSession}
+use Rattle.relay_hub.specs.declared.event.Answer.TheVariants.{NotForgotten, Adopted}
+use Rattle.relay_hub.specs.declared.event.Answer.TheVariants.{NotAdopted, FloorRaised, NoSession}
 use Rattle.relay_hub.specs.declared.event.Event.TheVariants.{Open, Receive, Draw, Close, DoWill}
-use Rattle.relay_hub.specs.declared.event.Event.TheVariants.{Forget}
+use Rattle.relay_hub.specs.declared.event.Event.TheVariants.{Forget, Adopt, RaiseFloor}
 use Rattle.relay_hub.specs.declared.event.Heard.TheVariants.{Answered, Busy}
 use Rattle.relay_hub.proofs.Stands.{step_stands}
 use Rattle.relay_hub.proofs.Watchers.{exactly_held}
@@ -147,6 +148,9 @@ module _ (b : HubConfig) (E : Log) (s : ℕ) (c : Client) (before : Tracks c (wa
   after_request text NoWill starts = before
   after_request text (Forgotten rev) starts = before
   after_request text (NotForgotten fault) starts = before
+  after_request text Adopted starts = before
+  after_request text (NotAdopted fault) starts = before
+  after_request text FloorRaised starts = before
   after_request text NoSession starts = before
 
 -- ---- a draw
@@ -198,6 +202,9 @@ module _ (b : HubConfig) (E : Log) (hub new : State) (s : ℕ) (c : Client)
   stays_draw NoWill step = quiet NoWill refl step refl
   stays_draw (Forgotten rev) step = quiet (Forgotten rev) refl step refl
   stays_draw (NotForgotten fault) step = quiet (NotForgotten fault) refl step refl
+  stays_draw Adopted step = quiet Adopted refl step refl
+  stays_draw (NotAdopted fault) step = quiet (NotAdopted fault) refl step refl
+  stays_draw FloorRaised step = quiet FloorRaised refl step refl
   stays_draw NoSession step = quiet NoSession refl step refl
 
 -- ---- the events of a turn
@@ -212,6 +219,8 @@ own_session s (makes (Draw t) answer before own step) is = own_session s before 
 own_session s (makes (Close t) answer before own step) is = inr refl
 own_session s (makes DoWill answer before own step) is = absurd own
 own_session s (makes (Forget room) answer before own step) is = absurd own
+own_session s (makes (Adopt room rev d) answer before own step) is = absurd own
+own_session s (makes (RaiseFloor rev) answer before own step) is = absurd own
 
 its_own : (q : Option ℕ) (s t : ℕ) → (q ≡ Some s) ⊎ (q ≡ None) → q ≡ Some t → t ≡ s
 its_own q s t held is =
@@ -276,6 +285,10 @@ stays_turn b E s t c (makes DoWill answer follows own step) is still resumes bef
     absurd own
 stays_turn b E s t c (makes (Forget room) answer follows own step) is still resumes before found =
     absurd own
+stays_turn b E s t c
+    (makes (Adopt room rev d) answer follows own step) is still resumes before found = absurd own
+stays_turn b E s t c
+    (makes (RaiseFloor rev) answer follows own step) is still resumes before found = absurd own
 
 -- ---- what it holds when nothing waits
 

@@ -9,6 +9,7 @@ use Rattle.relay_hub.specs.declared.config.HubConfig.{HubConfig}
 use Rattle.relay_hub.specs.declared.event.Event.{Event}
 use Rattle.relay_hub.specs.declared.event.Event.TheVariants.{Open as OpenEvent, Receive, Draw}
 use Rattle.relay_hub.specs.declared.event.Event.TheVariants.{Close, DoWill, Forget}
+use Rattle.relay_hub.specs.declared.event.Event.TheVariants.{Adopt, RaiseFloor}
 use Rattle.relay_link.specs.Adds.{is_receive, receives}
 use Rattle.relay_link.specs.Follows.{Point, at, no_opening, Follows, stays, makes, drawn}
 use Rattle.relay_link.specs.Frames.{framed, text_frames}
@@ -52,6 +53,8 @@ nobody_resumes b E s c (makes {q = q} (Close t) answer follows own step) none =
     (nobody_resumes b E s c follows before, λ m told. tt)
 nobody_resumes b E s c (makes DoWill answer follows own step) none = absurd own
 nobody_resumes b E s c (makes (Forget room) answer follows own step) none = absurd own
+nobody_resumes b E s c (makes (Adopt room rev d) answer follows own step) none = absurd own
+nobody_resumes b E s c (makes (RaiseFloor rev) answer follows own step) none = absurd own
 
 -- ---- a turn
 

@@ -99,7 +99,7 @@ will_homes (w ∷ wills) old new answer step t = absurd step
 forget_homes : (name : List ℕ) (old new : State) (answer : Answer)
     → Step old (Forget name) answer new
     → (t : ℕ) → index_of new t ≡ index_of old t
-forget_homes name old new (Forgotten rev) step t = ap (λ hub. index_of hub t) step.1.begins
+forget_homes name old new (Forgotten rev) step t = ap (λ hub. index_of hub t) step.1.0.begins
 forget_homes name old new (NotForgotten fault) step t = ap (λ hub. index_of hub t) step.1
 forget_homes name old new answer step t = absurd step
 

@@ -11,6 +11,7 @@ use Rattle.relay_audience.proofs.Views.{view_is, view_itself, view_back}
 use Rattle.relay_room.specs.Room.{State as Room}
 use Rattle.relay_room.specs.declared.catch_up.CatchUp.{CatchUp}
 use Rattle.relay_tree.specs.Document.{Document}
+use Rattle.relay_tree.proofs.Equal.{neither}
 use Rattle.relay_tree.specs.declared.budget.Budget.{Budget}
 use Rattle.relay_view.specs.View.{View}
 use Rattle.relay_hub.specs.Allowance.{Making, after_update, left_after, left_for}
@@ -61,6 +62,7 @@ module _ (d : Document) (room : Room) (make : Making) (total : Budget) where
     count = nobody (numbers xs);
     same = refl;
     each = λ t given holds. nothing (view_in xs t) t given;
+    all = λ t x v there watches one undue folds. one;
   }
     where
       nothing : (o : Option View) (t : ℕ) (given : View → Budget)
@@ -202,6 +204,50 @@ module _ (d : Document) (room : Room) (make : Making) (total : Budget) where
           (session_in ys t) (session_in zs t) (not_yet (view_in xs t)) first
           (rw (keeps t) at second))
 
+    -- whoever watches one of the views has had its update made
+    all : (t : ℕ) (x : Session) (u : View) → session_in xs t ≡ Some x → x.view ≡ Some u
+        → is_one_of (views ++ v ∷ []) u ≡ true → x.outbox.due ≡ false
+        → list_any (nat_eq t) (before.short ++ one.short) ≡ false → is_one_of made u ≡ true
+    all t x u there watches some undue folds =
+        let apart = neither (list_any (nat_eq t) before.short) (list_any (nat_eq t) one.short)
+        (rw (list_any-append (nat_eq t) before.short one.short) at folds) in
+        go (is_one_of views u) refl (same_view u v) refl one.made refl
+        (rw (list_any-append (same_view u) views (v ∷ [])) at some) apart
+      where
+        shows : view_in xs t ≡ Some u
+        shows = rw there watches
+
+        grown : (b : Bool) → is_one_of before.made u ≡ true
+            → is_one_of (cond b (before.made ++ v ∷ []) before.made) u ≡ true
+        grown true was = rw (list_any-append (same_view u) before.made (v ∷ []), was) refl
+        grown false was = was
+
+        now : same_view u v ≡ true → is_one_of (before.made ++ v ∷ []) u ≡ true
+        now is =
+            rw (list_any-append (same_view u) before.made (v ∷ []), is)
+            (or-true (is_one_of before.made u))
+
+        -- it was not told before, so its session is as it was
+        as_before : is_one_of views u ≡ false → session_in ys t ≡ Some x
+        as_before none =
+            let given = left_for make total before.made in
+            let unseen : is_some_of views (view_in xs t) ≡ false = rw shows none in
+            (subst (λ b. NotifiedIf b d room (updates_with make given)
+            (list_any (nat_eq t) before.short) (session_in xs t) (session_in ys t)) unseen
+            (before.each t given (λ v there. refl))).0 ∙ there
+
+        go : (c : Bool) → is_one_of views u ≡ c → (e : Bool) → same_view u v ≡ e → (b : Bool)
+            → one.made ≡ b → (c || (e || false)) ≡ true
+            → (list_any (nat_eq t) before.short ≡ false) × (list_any (nat_eq t) one.short ≡ false)
+            → is_one_of (cond b (before.made ++ v ∷ []) before.made) u ≡ true
+        go true one_of e same b is h apart =
+            grown b (before.all t x u there watches one_of undue apart.0)
+        go false none true same true is h apart = now same
+        go false none true same false is h apart =
+            let shown : is_view v x.view ≡ true = rw watches (sym (view_back u v) ∙ same) in
+            absurd (cc (one.unmade is t x (as_before none) shown undue, apart.1))
+        go false none false same b is h apart = absurd (cc h)
+
     -- one audience more is told
     pub told_more : ToldThose d room make total rest (views ++ v ∷ []) xs zs (n + m)
     told_more = record {
@@ -212,6 +258,7 @@ module _ (d : Document) (room : Room) (make : Making) (total : Budget) where
       count = counted;
       same = one.same ∙ before.same;
       each = each;
+      all = all;
     }
 
 -- a session that is told keeps its view

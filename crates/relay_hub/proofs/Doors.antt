@@ -1,7 +1,8 @@
 -- Openings and closings.
 use Rattle.std.proofs.Common.{◌≡◌, ◌≢◌, ℕ, zero, suc, ◌+◌, ◌-◌, ◌<◌, ◌≤◌, ◌==◌, ◌⊎◌, min, Bool}
 use Rattle.std.proofs.Common.{true, false, List, [], ◌∷◌, ◌++◌, length, length-append, replicate}
-use Rattle.std.proofs.Common.{not, Option, Some, None, refl, sym, ◌∙◌, ap, subst, arith, inl, inr}
+use Rattle.std.proofs.Common.{Ok, not, Option, Some, None, refl, sym, ◌∙◌, ap, subst, arith, inl}
+use Rattle.std.proofs.Common.{inr}
 use Rattle.std.proofs.Common.{slice_get, slice_set, nat_lt, nat_le, ◌||◌, if◌then◌else◌}
 use Rattle.std.proofs.lemmas.Bool.Decides.{eqb_tells, nat_tests}
 use Rattle.std.proofs.lemmas.List.{length-replicate, length-set, map-append}
@@ -10,15 +11,17 @@ use Rattle.relay_history.specs.History.{changes_since}
 use Rattle.relay_history.proofs.Growing.{changes_since-newest}
 use Rattle.relay_limits.specs.declared.TheConstants.{MAX_COUNT, MAX_REVISIONS}
 use Rattle.relay_patch.specs.Change.{Leads}
+use Rattle.relay_patch.specs.Patch.{within}
+use Rattle.relay_patch.specs.declared.bounds.TheConstants.Bounds.{DOCUMENT}
 use Rattle.relay_access.specs.RoomName.{is_room_name}
 use Rattle.relay_proto.specs.Written.{IsCount}
 use Rattle.relay_access.specs.declared.access.Access.{Access}
 use Rattle.relay_tree.specs.declared.budget.Budget.TheVariants.{Unbounded}
 use Rattle.relay_room.specs.Room.{begun, revision}
-use Rattle.relay_room.proofs.Rooms.{begun_is_room}
+use Rattle.relay_room.proofs.Rooms.{begun_within}
 use Rattle.relay_tree.specs.Document.{Document, null}
 use Rattle.relay_hub.specs.Log.{Log, Entry, entry, stay, home, is_opened, documents, reaching}
-use Rattle.relay_hub.specs.Log.{beginning, watching}
+use Rattle.relay_hub.specs.Log.{renewed, beginning, watching}
 use Rattle.relay_hub.specs.Session.{newcomer}
 use Rattle.relay_hub.specs.Stands.{RoomStands, OutboxStands, RoomSessionsStand, HomeStands}
 use Rattle.relay_hub.specs.Stands.{MayBegin, named_will, StandsFor}
@@ -110,14 +113,34 @@ may_reach floor ds (inr one) = rw one (only floor)
           last = null_at gap n (omega arith);
         }
 
-begun_led : (history floor rev : ℕ) (ds : List Document) (d : Document)
-    → slice_get ds floor ≡ Some null → rev ≤ floor → floor ≤ rev → slice_get ds rev ≡ Some d
-    → Leads d (changes_since rev (begun null floor history).history) null
-begun_led history floor rev ds d last below over at =
-    let same : rev ≡ floor = omega (arith, below, over) in
-    let both : Some d ≡ Some null = sym at ∙ (ap (λ k. slice_get ds k) same ∙ last) in
-    let is : d ≡ null = cc in
-    rw (same, changes_since-newest (begun null floor history).history) is
+begun_led : (history first rev : ℕ) (ds : List Document) (new d : Document)
+    → slice_get ds first ≡ Some new → rev ≤ first → first ≤ rev → slice_get ds rev ≡ Some d
+    → Leads d (changes_since rev (begun new first history).history) new
+begun_led history first rev ds new d last below over at =
+    let same : rev ≡ first = omega (arith, below, over) in
+    let both : Some d ≡ Some new = sym at ∙ (ap (λ k. slice_get ds k) same ∙ last) in
+    let is : d ≡ new = cc in
+    rw (same, changes_since-newest (begun new first history).history) is
+
+-- a room that begins with the last of these documents
+pub begins_stands : (b : HubConfig) (first from : ℕ) (ds : List Document) (new : Document)
+    → IsCount first → from ≤ first
+    → (b.history_weight ≡ Unbounded → min b.history (first - from) ≡ 0)
+    → within DOCUMENT new ≡ Ok new → length ds ≡ first + 1 → slice_get ds first ≡ Some new
+    → 1 ≤ b.history → b.history ≤ MAX_REVISIONS
+    → RoomStands b from ds (begun new first b.history)
+begins_stands b first from ds new count began none inside long last least most = record {
+  document = let index : length ds - 1 ≡ first = omega (arith, long) in rw (index, last) refl;
+  numbered = sym long;
+  began = began;
+  is = begun_within new first b.history inside least most count;
+  limit = refl;
+  held = λ free. sym (none free);
+  led = λ rev d at reaches.
+      begun_led b.history first rev ds new d last reaches.made
+      (let back = reaches.back in omega (arith, back)) at;
+  steps = λ rev before after changes at behind held. absurd (cc held);
+}
 
 pub begun_stands : (b : HubConfig) (floor from : ℕ) (ds : List Document) → IsCount floor
     → from ≤ floor → (b.history_weight ≡ Unbounded → min b.history (floor - from) ≡ 0)
@@ -126,20 +149,32 @@ pub begun_stands : (b : HubConfig) (floor from : ℕ) (ds : List Document) → I
     → RoomStands b from (reaching floor ds) (begun null floor b.history)
 begun_stands b floor from ds count began none may least most =
     let r = may_reach floor ds may in
-    let is = begun_is_room null floor b.history refl refl least most count in
-    record {
-      document = let last : length (reaching floor ds) - 1 ≡ floor = omega (arith, r.long) in
-          rw (last, r.last) refl;
-      numbered = sym r.long;
-      began = began;
-      is = is;
-      limit = refl;
-      held = λ free. sym (none free);
-      led = λ rev d at reaches.
-          begun_led b.history floor rev (reaching floor ds) d r.last reaches.made
-          (let back = reaches.back in omega (arith, back)) at;
-      steps = λ rev before after changes at behind held. absurd (cc held);
-    }
+    begins_stands b floor from (reaching floor ds) null count began none refl r.long r.last least
+    most
+
+-- The documents of a room that begins anew, above all of its name.
+
+pub renewed_long : (rev : ℕ) (d : Document) (ds : List Document) → length ds ≤ rev
+    → length (renewed rev d ds) ≡ rev + 1
+renewed_long rev d ds short =
+    let gap = rev - length ds in
+    omega (
+      arith,
+      short,
+      length-append ds (replicate gap null ++ d ∷ []),
+      length-append (replicate gap null) (d ∷ []),
+      length-replicate gap null,
+    )
+
+pub renewed_last : (rev : ℕ) (d : Document) (ds : List Document) → length ds ≤ rev
+    → slice_get (renewed rev d ds) rev ≡ Some d
+renewed_last rev d ds short =
+    let gap = rev - length ds in
+    let index : rev ≡ length ds + gap = omega (arith, short) in
+    ap (λ k. slice_get (renewed rev d ds) k) index
+    ∙ (behind ds (replicate gap null ++ d ∷ []) gap
+    ∙ subst (λ k. slice_get (replicate gap null ++ d ∷ []) k ≡ Some d) (length-replicate gap null)
+    (slice_get-last (replicate gap null) d))
 
 module _ (b : HubConfig) (E : Log) (old new : State) (name : List ℕ) (access : Access)
     (o : Opening) (stands : StandsFor b E old) (step : Opens old name access o new)

@@ -35,15 +35,16 @@ use Rattle.relay_hub.specs.State.{session_in}
 use Rattle.relay_hub.specs.Step.{OnlyAt, EditServed, WillServed, ResumeServed, Serves, Receives}
 use Rattle.relay_hub.specs.Step.{Draws, with_room, with_wills, InRoom, AtIndex, open_fault, Founds}
 use Rattle.relay_hub.specs.Step.{Enters, Opens, left_of, Closes, ClosesIn, ClosesInRoom, ClosesAt}
-use Rattle.relay_hub.specs.Step.{DoesWill, forget_fault, Forgets, Step}
+use Rattle.relay_hub.specs.Step.{DoesWill, BeginsAnew, with_floor, raised_floor, Step}
 use Rattle.relay_hub.specs.declared.config.HubConfig.{HubConfig}
 use Rattle.relay_hub.specs.declared.event.Answer.{Answer}
 use Rattle.relay_hub.specs.declared.event.Answer.TheVariants.{Opened, NotOpened, Heard, Drawn}
 use Rattle.relay_hub.specs.declared.event.Answer.TheVariants.{Closed, WillDone, NoWill, Forgotten}
-use Rattle.relay_hub.specs.declared.event.Answer.TheVariants.{NotForgotten, NoSession}
+use Rattle.relay_hub.specs.declared.event.Answer.TheVariants.{NotForgotten, Adopted}
+use Rattle.relay_hub.specs.declared.event.Answer.TheVariants.{NotAdopted, FloorRaised, NoSession}
 use Rattle.relay_hub.specs.declared.event.Event.{Event}
 use Rattle.relay_hub.specs.declared.event.Event.TheVariants.{Open, Receive, Draw, Close, DoWill}
-use Rattle.relay_hub.specs.declared.event.Event.TheVariants.{Forget}
+use Rattle.relay_hub.specs.declared.event.Event.TheVariants.{Forget, Adopt, RaiseFloor}
 use Rattle.relay_hub.specs.declared.event.Opening.{Opening}
 use Rattle.relay_hub.specs.declared.fault.OpenFault.TheVariants.{RoomName, RoomsFull, SessionsFull}
 use Rattle.relay_hub.specs.declared.fault.OpenFault.TheVariants.{Exhausted}
@@ -53,7 +54,7 @@ use Rattle.relay_hub.proofs.Cases.{by_number, by_finding}
 use Rattle.relay_hub.proofs.Lists.{slice_set_cases, append_cases, slice_get-set}
 use Rattle.relay_hub.proofs.Lists.{slice_get-set_other, slice_get-earlier, slice_get-last}
 use Rattle.relay_hub.proofs.Floors.{floor_count}
-use Rattle.relay_hub.proofs.Forgetting.{idle, absent, fault_is}
+use Rattle.relay_hub.proofs.Forgetting.{absent, forgets_idle, adopts_idle}
 use Rattle.relay_hub.proofs.Rooms.{Vacant, vacant}
 use Rattle.relay_hub.proofs.Notified.{each_notified, none_notified, some_notified, once_same}
 use Rattle.relay_hub.proofs.Wills.{have_more, have_set, have_left, few_left}
@@ -747,15 +748,14 @@ does_will_is_hub old new (w ∷ wills) (WillDone short) h is step =
         }
 does_will_is_hub old new wills answer h is step = absurd step
 
--- a room that is forgotten
+-- a room that begins anew, in which nobody is
 
-forgets_is_hub : (old new : State) (name : List ℕ) (rev : ℕ) → IsHub old
-    → forget_fault old name ≡ None → Forgets old name rev new → IsHub new
-forgets_is_hub old new name rev h may step =
+begins_is_hub : (old new : State) (name : List ℕ) (rev : ℕ) (d : Document) → IsHub old
+    → (step : BeginsAnew old name rev d new) → step.room.sessions ≡ [] → IsHub new
+begins_is_hub old new name rev d h step empty =
     let g = step.room in
-    let anew = room_sessions (begun null rev old.config.history) [] in
+    let anew = room_sessions (begun d rev old.config.history) [] in
     let next = with_room step.index name anew old in
-    let is = idle g (sym (fault_is old name step.index (name, g) step.named step.there) ∙ may) in
     subst IsHub (sym step.begins) (record {
       config = h.config;
       floor = h.floor;
@@ -763,7 +763,7 @@ forgets_is_hub old new name rev h may step =
       homes = λ t p t_at.
           let home = h.homes t p t_at in
           set_homes old next step.index name g anew step.there refl t home home.at (λ same.
-          absurd (nobody g t home.session is.empty
+          absurd (nobody g t home.session empty
           (same_home old t step.index name g home step.there same)));
       members = set_alone old next step.index name anew h refl (λ t p e other. e) (λ t x none.
           absurd (cc none));
@@ -775,6 +775,32 @@ forgets_is_hub old new name rev h may step =
     nobody : (g : RoomSessions) (t : ℕ) (x : Session) → g.sessions ≡ []
         → session_in g.sessions t ≡ Some x → ⊥
     nobody g t x empty there = cc (absent g t empty, there)
+
+-- a floor that rises
+
+raises_is_hub : (old : State) (rev : ℕ) → IsHub old
+    → IsHub (with_floor (raised_floor rev old.floor) old)
+raises_is_hub old rev h = record {
+  config = h.config;
+  floor = omega (arith, h.floor);
+  below = h.below;
+  homes = λ t index at. kept_home t (h.homes t index at);
+  members = h.members;
+  once = h.once;
+  few = h.few;
+  wills = h.wills;
+}
+  where
+    kept_home : (t : ℕ) → Home old t → Home (with_floor (raised_floor rev old.floor) old) t
+    kept_home t home =
+        let r = home.room in
+        record {
+          room = record
+              { index = r.index; name = r.name; room_sessions = r.room_sessions; there = r.there };
+          session = home.session;
+          at = home.at;
+          is = home.is;
+        }
 
 -- a step keeps `IsHub`
 pub step_is_hub : (old new : State) (event : Event) (answer : Answer) → IsHub old
@@ -795,7 +821,14 @@ step_is_hub old new (Close s) answer h step =
     close_is_hub old new s (index_of old s) answer h refl step
 step_is_hub old new DoWill answer h step = does_will_is_hub old new old.wills answer h refl step
 step_is_hub old new (Forget name) (Forgotten rev) h step =
-    forgets_is_hub old new name rev h step.0 step.1
+    let anew = step.1 in
+    begins_is_hub old new name rev null h anew.0 (forgets_idle old new name rev step.0 anew).empty
 step_is_hub old new (Forget name) (NotForgotten fault) h step = rw step.1 h
 step_is_hub old new (Forget name) answer h step = absurd step
+step_is_hub old new (Adopt name rev d) Adopted h step =
+    begins_is_hub old new name rev d h step.1 (adopts_idle old new name rev d step.0 step.1).empty
+step_is_hub old new (Adopt name rev d) (NotAdopted fault) h step = rw step.1 h
+step_is_hub old new (Adopt name rev d) answer h step = absurd step
+step_is_hub old new (RaiseFloor rev) FloorRaised h step = rw step (raises_is_hub old rev h)
+step_is_hub old new (RaiseFloor rev) answer h step = absurd step
 step_is_hub old new (Open name access) answer h step = absurd step

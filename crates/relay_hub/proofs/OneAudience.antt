@@ -78,6 +78,12 @@ module _ (room : Room) (d : Document) (changes : List Change) (is : IsRoom room)
           (subst (λ b. GivenIf b update (list_any (nat_eq t) h.short) (session_in xs t)
           (session_in ys t)) (agree t) (h.each t))
 
+  -- a session that watches the view is one of them
+  attends_it : (t : ℕ) (x : Session) → session_in xs t ≡ Some x → is_view a.view x.view ≡ true
+      → list_any (nat_eq t) a.sessions ≡ true
+  attends_it t x there watches =
+      let shown : is_view a.view (view_in xs t) ≡ true = rw there watches in agree t ∙ shown
+
   -- a snapshot is due for each of them
   pub told_due : (left : Budget) → AreDue a.sessions xs
       → ToldOne d room (making most changes room) left left a.view xs xs 0
@@ -88,6 +94,8 @@ module _ (room : Room) (d : Document) (changes : List Change) (is : IsRoom room)
     count = nobody (numbers xs);
     same = refl;
     each = λ t given holds. go t given (is_view a.view (view_in xs t)) refl (session_in xs t) refl;
+    unmade = λ not_made t x there watches undue.
+        absurd (cc (due t x (attends_it t x there watches) there, undue));
   }
     where
       go : (t : ℕ) (given : View → Budget) (b : Bool) → is_view a.view (view_in xs t) ≡ b
@@ -109,8 +117,24 @@ module _ (room : Room) (d : Document) (changes : List Change) (is : IsRoom room)
     count = h.count;
     same = h.same;
     each = λ t given holds. all_given None given (one given) ys n h t;
+    unmade = λ not_made t x there watches undue. folds t x there watches undue;
   }
     where
+      folds : (t : ℕ) (x : Session) → session_in xs t ≡ Some x → is_view a.view x.view ≡ true
+          → x.outbox.due ≡ false → list_any (nat_eq t) h.short ≡ true
+      folds t x there watches undue =
+          go (list_any (nat_eq t) h.short) refl (session_in ys t)
+          (subst (λ b. GivenIf b None (list_any (nat_eq t) h.short) (Some x) (session_in ys t))
+          (attends_it t x there watches)
+          (subst (λ o. GivenIf (list_any (nat_eq t) a.sessions) None (list_any (nat_eq t) h.short) o
+          (session_in ys t)) there (h.each t)))
+        where
+          go : (short : Bool) → list_any (nat_eq t) h.short ≡ short → (p : Option Session)
+              → GivenIf true None short (Some x) p → list_any (nat_eq t) h.short ≡ true
+          go true is p k = is
+          go false is (Some y) k = absurd (cc (k.0, undue))
+          go false is None k = absurd k
+
       one : (given : View → Budget) (x y : Session) (short : Bool) → Given None short x y
           → NotifiedAs d room (updates_with (making most changes room) given) (Some a.view) short x
           y
@@ -133,6 +157,7 @@ module _ (room : Room) (d : Document) (changes : List Change) (is : IsRoom room)
         count = h.count;
         same = h.same;
         each = λ t given holds. all_given (Some update) given (one given (holds refl)) ys n h t;
+        unmade = λ not_made. absurd (cc not_made);
       }
     where
       outbox : (x : Session)

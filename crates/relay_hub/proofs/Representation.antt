@@ -12,26 +12,30 @@ use Rattle.indexmap.specs.IndexMap.{set_value_at, with_value_at, values}
 use Rattle.relay_outbox.specs.declared.outbox.TheConstants.{MAX_REPLIES}
 use Rattle.relay_room.specs.Edit.{edited}
 use Rattle.relay_room.specs.Room.{begun, revision}
-use Rattle.relay_tree.specs.Document.{null}
+use Rattle.relay_tree.specs.Document.{Document, null}
 use Rattle.relay_hub.specs.Call.{StepIf, ReceivesIf, DrawsIf, HasSpace, forgetting}
+use Rattle.relay_hub.specs.Call.{adopting}
 use Rattle.relay_hub.specs.Representation.{named, hub_of}
 use Rattle.relay_hub.specs.Session.{Session}
 use Rattle.relay_hub.specs.State.{RoomSessions, room_sessions, State, IsHub, index_of, index_named}
 use Rattle.relay_hub.specs.State.{session_in, session_of}
-use Rattle.relay_hub.specs.Step.{ChangesOnly, WillServed, with_room, left_of, DoesWill, anew_fault}
-use Rattle.relay_hub.specs.Step.{forget_fault, Step}
+use Rattle.relay_hub.specs.Step.{ChangesOnly, WillServed, with_room, left_of, DoesWill, BeginsAnew}
+use Rattle.relay_hub.specs.Step.{anew_fault, adopt_fault, forget_fault_of, forget_fault, Step}
 use Rattle.relay_hub.specs.Queries.{room_and_session, may_hear}
 use Rattle.relay_hub.specs.declared.event.Answer.{Answer}
 use Rattle.relay_hub.specs.declared.event.Answer.TheVariants as answer
 use Rattle.relay_hub.specs.declared.event.Event.{Event}
 use Rattle.relay_hub.specs.declared.event.Event.TheVariants.{Receive, Draw, Close, DoWill, Forget}
+use Rattle.relay_hub.specs.declared.event.Event.TheVariants.{Adopt}
+use Rattle.relay_hub.specs.declared.fault.AdoptFault.{AdoptFault}
+use Rattle.relay_hub.specs.declared.fault.AdoptFault.TheVariants as adopt
 use Rattle.relay_hub.specs.declared.fault.ForgetFault.{ForgetFault}
 use Rattle.relay_hub.specs.declared.fault.ForgetFault.TheVariants as forget
 use Rattle.relay_hub.specs.declared.hub.Hub.TheInside.{Inside}
 use Rattle.relay_hub.specs.declared.will.Will.{Will}
 use Rattle.relay_hub.proofs.Members.{step_is_hub}
 use Rattle.relay_hub.proofs.Lists.{slice_set_same}
-use Rattle.relay_hub.proofs.Forgetting.{fault_is}
+use Rattle.relay_hub.proofs.Forgetting.{fault_is, adopt_fault_is}
 use Rattle.relay_hub.proofs.Rooms.{some_named, name_found}
 
 -- the room at an index
@@ -282,14 +286,31 @@ will_done h w old new left short oldest there is served =
           rw k.was (new, served, hub_with-is h w.room_index old new k),
         )
 
+-- the room of a name begins anew
+abbrev anew : (h : Inside) (name : List ℕ) (i : ℕ) (old new : RoomSessions) (d : Document) (rev : ℕ)
+    → index_named name (hub_of h).rooms ≡ Some i → slice_get (values h.rooms) i ≡ Some old
+    → new ≡ room_sessions (begun d rev h.config.history) []
+    → BeginsAnew (hub_of h) name rev d (hub_with h i new)
+anew h name i old new d rev at there is =
+    let w = written h.rooms.entries i old new there in
+    let known = name_found (hub_of h).rooms name w.name old i at w.was in
+    record {
+      index = i;
+      room = old;
+      named = at;
+      there = w.was ∙ ap (λ n. Some (n, old)) known;
+      begins = hub_with-is h i old new w ∙ ap (λ n. with_room i n new (hub_of h)) known
+          ∙ ap (λ g. with_room i name g (hub_of h)) is;
+    }
+
 -- the room of a name is forgotten, or not
 pub forgets : (h : Inside) (name : List ℕ) (i : ℕ) (old new : RoomSessions)
     (result : Result ℕ ForgetFault) → index_named name (hub_of h).rooms ≡ Some i
     → slice_get (values h.rooms) i ≡ Some old
     → IfOk result (λ rev. (rev ≡ revision old.room + 1)
     × (new ≡ room_sessions (begun null rev h.config.history) []))
-    → OnOk result (anew_fault old ≡ None)
-    → IfErr result (λ fault. fault ≢ forget.NoMemory → anew_fault old ≡ Some fault)
+    → OnOk result (forget_fault_of old ≡ None)
+    → IfErr result (λ fault. fault ≢ forget.NoMemory → forget_fault_of old ≡ Some fault)
     → OnErr result (new ≡ old)
     → StepIf (hub_of h) (Forget name) (forgetting result) (hub_with h i new)
 forgets h name i old new result at there ok may fault err = go result ok may fault err
@@ -297,34 +318,23 @@ forgets h name i old new result at there ok may fault err = go result ok may fau
     w : Written h.rooms.entries i old new
     w = written h.rooms.entries i old new there
 
-    known : w.name ≡ name
-    known = name_found (hub_of h).rooms name w.name old i at w.was
-
-    is : forget_fault (hub_of h) name ≡ anew_fault old
+    is : forget_fault (hub_of h) name ≡ forget_fault_of old
     is = fault_is (hub_of h) name i (w.name, old) at w.was
 
-    refused : (why : ForgetFault) → anew_fault old ≡ Some why → new ≡ old
+    refused : (why : ForgetFault) → forget_fault_of old ≡ Some why → new ≡ old
         → Step (hub_of h) (Forget name) (answer.NotForgotten why) (hub_with h i new)
     refused why because same = (is ∙ because, same_hub h i old new there same)
 
     go : (r : Result ℕ ForgetFault)
         → IfOk r (λ rev. (rev ≡ revision old.room + 1)
         × (new ≡ room_sessions (begun null rev h.config.history) []))
-        → OnOk r (anew_fault old ≡ None)
-        → IfErr r (λ fault. fault ≢ forget.NoMemory → anew_fault old ≡ Some fault)
+        → OnOk r (forget_fault_of old ≡ None)
+        → IfErr r (λ fault. fault ≢ forget.NoMemory → forget_fault_of old ≡ Some fault)
         → OnErr r (new ≡ old)
         → StepIf (hub_of h) (Forget name) (forgetting r) (hub_with h i new)
     go (Ok rev) ok may fault err = (
       is ∙ may,
-      record {
-        index = i;
-        room = old;
-        named = at;
-        there = w.was ∙ ap (λ n. Some (n, old)) known;
-        newer = ok.0;
-        begins = hub_with-is h i old new w ∙ ap (λ n. with_room i n new (hub_of h)) known
-            ∙ ap (λ g. with_room i name g (hub_of h)) ok.1;
-      },
+      (anew h name i old new null rev at there ok.1, ok.0),
     )
     go (Err forget.NoMemory) ok may fault err = same_hub h i old new there err
     go (Err forget.NoRoom) ok may fault err = refused forget.NoRoom (fault (λ e. absurd (cc e))) err
@@ -332,6 +342,43 @@ forgets h name i old new result at there ok may fault err = go result ok may fau
         refused forget.Occupied (fault (λ e. absurd (cc e))) err
     go (Err forget.Exhausted) ok may fault err =
         refused forget.Exhausted (fault (λ e. absurd (cc e))) err
+
+-- the room of a name adopts a document, or not
+pub adopts : (h : Inside) (name : List ℕ) (rev : ℕ) (d : Document) (i : ℕ) (old new : RoomSessions)
+    (result : Result (Unit {0}) AdoptFault) → index_named name (hub_of h).rooms ≡ Some i
+    → slice_get (values h.rooms) i ≡ Some old
+    → OnOk result (new ≡ room_sessions (begun d rev h.config.history) [])
+    → OnOk result (anew_fault d rev old ≡ None)
+    → IfErr result (λ fault. fault ≢ adopt.NoMemory → anew_fault d rev old ≡ Some fault)
+    → OnErr result (new ≡ old)
+    → StepIf (hub_of h) (Adopt name rev d) (adopting result) (hub_with h i new)
+adopts h name rev d i old new result at there ok may fault err = go result ok may fault err
+  where
+    is : adopt_fault (hub_of h) name rev d ≡ anew_fault d rev old
+    is =
+        let w = written h.rooms.entries i old new there in
+        adopt_fault_is (hub_of h) name rev d i (w.name, old) at w.was
+
+    refused : (why : AdoptFault) → anew_fault d rev old ≡ Some why → new ≡ old
+        → Step (hub_of h) (Adopt name rev d) (answer.NotAdopted why) (hub_with h i new)
+    refused why because same = (is ∙ because, same_hub h i old new there same)
+
+    go : (r : Result (Unit {0}) AdoptFault)
+        → OnOk r (new ≡ room_sessions (begun d rev h.config.history) [])
+        → OnOk r (anew_fault d rev old ≡ None)
+        → IfErr r (λ fault. fault ≢ adopt.NoMemory → anew_fault d rev old ≡ Some fault)
+        → OnErr r (new ≡ old)
+        → StepIf (hub_of h) (Adopt name rev d) (adopting r) (hub_with h i new)
+    go (Ok u) ok may fault err = (is ∙ may, anew h name i old new d rev at there ok)
+    go (Err adopt.NoMemory) ok may fault err = same_hub h i old new there err
+    go (Err adopt.NoRoom) ok may fault err = refused adopt.NoRoom (fault (λ e. absurd (cc e))) err
+    go (Err adopt.Occupied) ok may fault err =
+        refused adopt.Occupied (fault (λ e. absurd (cc e))) err
+    go (Err adopt.NotAbove) ok may fault err =
+        refused adopt.NotAbove (fault (λ e. absurd (cc e))) err
+    go (Err adopt.TooDeep) ok may fault err = refused adopt.TooDeep (fault (λ e. absurd (cc e))) err
+    go (Err adopt.TooHeavy) ok may fault err =
+        refused adopt.TooHeavy (fault (λ e. absurd (cc e))) err
 
 -- a call that is a step, or changes nothing, keeps `IsHub`
 pub stays_hub : (old new : State) (event : Event) (answer : Option Answer) → IsHub old

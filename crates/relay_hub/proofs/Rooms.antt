@@ -18,15 +18,17 @@ use Rattle.relay_limits.specs.declared.TheConstants.{MAX_COUNT}
 use Rattle.relay_hub.specs.Admitted.{permitted}
 use Rattle.relay_hub.specs.Log.{Log, Stay, Bequest, stay, entry, home, left, document_left}
 use Rattle.relay_hub.specs.Log.{documents, documents_after, document_added, extended, requested}
-use Rattle.relay_hub.specs.Log.{reaching, beginning, beginning_after}
+use Rattle.relay_hub.specs.Log.{reaching, renewed, beginning, beginning_after}
 use Rattle.relay_hub.specs.Stands.{MayBegin}
 use Rattle.relay_hub.specs.Session.{Session}
 use Rattle.relay_hub.specs.State.{RoomSessions, index_named, is_null, is_evictable, above}
 use Rattle.relay_hub.specs.State.{vacant_index}
 use Rattle.relay_hub.specs.declared.event.Answer.{Answer}
 use Rattle.relay_hub.specs.declared.event.Answer.TheVariants.{Opened, Heard, WillDone, Forgotten}
+use Rattle.relay_hub.specs.declared.event.Answer.TheVariants.{Adopted}
 use Rattle.relay_hub.specs.declared.event.Event.{Event}
 use Rattle.relay_hub.specs.declared.event.Event.TheVariants.{Open, Receive, DoWill, Forget}
+use Rattle.relay_hub.specs.declared.event.Event.TheVariants.{Adopt}
 use Rattle.relay_hub.specs.declared.event.Opening.{Opening}
 use Rattle.relay_hub.specs.declared.will.Will.{Will}
 use Rattle.relay_hub.specs.declared.event.Heard.TheVariants.{Answered}
@@ -290,6 +292,12 @@ first_document (e ∷ E) name =
     reached true ds rev h = append ds (replicate (rev + 1 - length ds) null) h
     reached false ds rev h = h
 
+    renews : (here : Bool) (rev : ℕ) (d : Document) (ds : List Document)
+        → slice_get ds 0 ≡ Some null
+        → slice_get (if here then renewed rev d ds else ds) 0 ≡ Some null
+    renews true rev d ds h = append ds (replicate (rev - length ds) null ++ d ∷ []) h
+    renews false rev d ds h = h
+
     after : (homes : ℕ → Option Stay) (wills : List Bequest) (ds : List Document) (event : Event)
         (answer : Answer) → slice_get ds 0 ≡ Some null
         → slice_get (documents_after homes wills ds name event answer) 0 ≡ Some null
@@ -297,7 +305,9 @@ first_document (e ∷ E) name =
     after homes wills ds (Receive s text) (Heard (Answered short)) h =
         more ds (document_added ds name (homes s) text) h
     after homes wills ds DoWill (WillDone short) h = more ds (document_left ds name wills) h
-    after homes wills ds (Forget room) (Forgotten rev) h = reached (bytes_eq room name) ds rev h
+    after homes wills ds (Forget room) (Forgotten rev) h =
+        renews (bytes_eq room name) rev null ds h
+    after homes wills ds (Adopt room rev d) Adopted h = renews (bytes_eq room name) rev d ds h
     after homes wills ds _ _ h = h
 
 -- An opening.
@@ -361,6 +371,19 @@ beginning_within (e ∷ E) name =
         omega (arith, h, length-append ds (replicate (rev + 1 - length ds) null))
     reached false later ds rev was h = h
 
+    renews : (here : Bool) (rev : ℕ) (d : Document) (ds : List Document) (was : ℕ)
+        → was < length ds
+        → (if here then rev else was) < length (if here then renewed rev d ds else ds)
+    renews true rev d ds was h =
+        let gap = rev - length ds in
+        omega (
+          arith,
+          length-append ds (replicate gap null ++ d ∷ []),
+          length-append (replicate gap null) (d ∷ []),
+          length-replicate gap null,
+        )
+    renews false rev d ds was h = h
+
     after : (homes : ℕ → Option Stay) (wills : List Bequest) (was : ℕ) (ds : List Document)
         (event : Event) (answer : Answer) → was < length ds
         → beginning_after was ds name event answer
@@ -371,7 +394,9 @@ beginning_within (e ∷ E) name =
         more ds (document_added ds name (homes s) text) was h
     after homes wills was ds DoWill (WillDone short) h = more ds (document_left ds name wills) was h
     after homes wills was ds (Forget room) (Forgotten rev) h =
-        reached (bytes_eq room name) (nat_le (length ds) rev) ds rev was h
+        renews (bytes_eq room name) rev null ds was h
+    after homes wills was ds (Adopt room rev d) Adopted h =
+        renews (bytes_eq room name) rev d ds was h
     after homes wills was ds _ _ h = h
 
 -- a session that enters a room that is there does not change it

@@ -21,17 +21,18 @@ use Rattle.relay_hub.specs.declared.config.HubConfig.{HubConfig}
 use Rattle.relay_hub.specs.declared.event.Answer.{Answer}
 use Rattle.relay_hub.specs.declared.event.Answer.TheVariants.{Opened, NotOpened, Heard, Drawn}
 use Rattle.relay_hub.specs.declared.event.Answer.TheVariants.{Closed, Forgotten, NotForgotten}
+use Rattle.relay_hub.specs.declared.event.Answer.TheVariants.{Adopted, NotAdopted, FloorRaised}
 use Rattle.relay_hub.specs.declared.event.Answer.TheVariants.{NoSession}
 use Rattle.relay_hub.specs.declared.event.Event.{Event}
 use Rattle.relay_hub.specs.declared.event.Event.TheVariants.{Open, Receive, Draw, Close, DoWill}
-use Rattle.relay_hub.specs.declared.event.Event.TheVariants.{Forget}
+use Rattle.relay_hub.specs.declared.event.Event.TheVariants.{Forget, Adopt, RaiseFloor}
 use Rattle.relay_hub.specs.declared.event.Heard.TheVariants.{Answered, Busy}
 use Rattle.relay_hub.proofs.Admissions.{admitted_sent, other_sent}
 use Rattle.relay_hub.proofs.Counts.{edit_refusal_counts}
 use Rattle.relay_hub.proofs.Doors.{open_stands, close_stands}
 use Rattle.relay_hub.proofs.Bequests.{does_will_stands}
 use Rattle.relay_hub.proofs.Draws.{draw_stands}
-use Rattle.relay_hub.proofs.Forgetting.{forget_stands}
+use Rattle.relay_hub.proofs.Forgetting.{forget_stands, adopt_stands, raise_stands}
 use Rattle.relay_hub.proofs.Frames.{Quiet, unaffected, session_stands}
 use Rattle.relay_hub.proofs.Lists.{slice_set_same}
 use Rattle.relay_hub.proofs.Served.{served_refusal, served_will, served_watch, served_unwatch}
@@ -228,8 +229,18 @@ step_stands b E old new (Forget name) (NotForgotten fault) stands step =
     rw step.1 (unaffected b E (entry (Forget name) (NotForgotten fault)) old stands
     (record { opened = refl; count = refl; rooms = λ name. refl }) (λ name. refl) refl (λ t.
     refl) (λ other. refl) (λ t. refl))
+step_stands b E old new (Adopt name rev d) Adopted stands step =
+    adopt_stands b E old new name rev d stands step.0 step.1
+step_stands b E old new (Adopt name rev d) (NotAdopted fault) stands step =
+    rw step.1 (unaffected b E (entry (Adopt name rev d) (NotAdopted fault)) old stands
+    (record { opened = refl; count = refl; rooms = λ name. refl }) (λ name. refl) refl (λ t.
+    refl) (λ other. refl) (λ t. refl))
+step_stands b E old new (RaiseFloor rev) FloorRaised stands step =
+    rw step (raise_stands b E old rev stands)
 step_stands b E old new (Open name access) answer stands step = absurd step
 step_stands b E old new (Forget name) answer stands step = absurd step
+step_stands b E old new (Adopt name rev d) answer stands step = absurd step
+step_stands b E old new (RaiseFloor rev) answer stands step = absurd step
 
 pub call_stands : (b : HubConfig) (E : Log) (old new : State) (event : Event)
     (answer : Option Answer) → StandsFor b E old → StepIf old event answer new

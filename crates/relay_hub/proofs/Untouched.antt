@@ -1,6 +1,7 @@
 -- A session that an edit does not touch is notified of nothing; so if those that it touches are
 -- notified, all are.
-use Rattle.std.proofs.Common.{◌≡◌, ℕ, ◌-◌, ◌<◌, ◌==◌, Bool, true, false, cond, nat_eq, List, []}
+use Rattle.std.proofs.Common.{◌≡◌, ◌⊎◌, ℕ, ◌-◌, ◌<◌, ◌==◌, Bool, true, false, cond, nat_eq}
+use Rattle.std.proofs.Common.{List, [], inl, inr}
 use Rattle.std.proofs.Common.{◌∷◌, Option, Some, None, Ok, refl, sym, ap, ◌∙◌, ◌||◌, subst, arith}
 use Rattle.std.proofs.Common.{take}
 use Rattle.std.proofs.Common.{length, ◌≤◌, option_map}
@@ -97,6 +98,16 @@ module _ (room : Room) (d : Document) (changes : List Change)
         → view_in xs t ≡ Some v → local changes room.document v ≡ []
     outside t none v has = others t v has (rw has at none)
 
+    -- an edit that touches a view has had its update made
+    touched_or_made : (t : ℕ) (x : Session) (v : View) → session_in xs t ≡ Some x
+        → x.view ≡ Some v → x.outbox.due ≡ false → list_any (nat_eq t) told.short ≡ false
+        → (b : Bool) → is_one_of views v ≡ b
+        → (local changes room.document v ≡ []) ⊎ (is_one_of told.made v ≡ true)
+    touched_or_made t x v there watches undue folds true one =
+        inr (told.all t x v there watches one undue folds)
+    touched_or_made t x v there watches undue folds false none =
+        inl (others t v (rw there watches) none)
+
     -- whoever watches a view of which the edit changes nothing is notified by nothing
     pub all_told : AllNotified d changes room most total xs ys n
     all_told = record {
@@ -109,6 +120,8 @@ module _ (room : Room) (d : Document) (changes : List Change)
           either (is_some_of views (view_in xs t)) (list_any (nat_eq t) told.short)
           (session_in xs t) (session_in ys t) (outside t)
           (told.each t given (λ v there. refl));
+      all = λ t x v there watches undue folds.
+          touched_or_made t x v there watches undue folds (is_one_of views v) refl;
     }
 
 -- ---- which views are told

@@ -16,6 +16,8 @@ use Rattle.relay_hub.specs.declared.event.Answer.TheVariants as answer
 use Rattle.relay_hub.specs.declared.event.Event.{Event}
 use Rattle.relay_hub.specs.declared.event.Heard.{Heard}
 use Rattle.relay_hub.specs.declared.event.Opening.{Opening}
+use Rattle.relay_hub.specs.declared.fault.AdoptFault.{AdoptFault}
+use Rattle.relay_hub.specs.declared.fault.AdoptFault.TheVariants as adopt
 use Rattle.relay_hub.specs.declared.fault.ForgetFault.{ForgetFault}
 use Rattle.relay_hub.specs.declared.fault.ForgetFault.TheVariants as forget
 use Rattle.relay_hub.specs.declared.fault.HubFault.{HubFault}
@@ -66,6 +68,14 @@ not_forgotten fault = Some (answer.NotForgotten fault)
 abbrev pub forgetting : Result ℕ ForgetFault → Option Answer
 forgetting (Ok rev) = Some (answer.Forgotten rev)
 forgetting (Err fault) = not_forgotten fault
+
+abbrev pub not_adopted : AdoptFault → Option Answer
+not_adopted adopt.NoMemory = None
+not_adopted fault = Some (answer.NotAdopted fault)
+
+abbrev pub adopting : Result (Unit {0}) AdoptFault → Option Answer
+adopting (Ok u) = Some answer.Adopted
+adopting (Err fault) = not_adopted fault
 
 -- a call with that answer is a step, and a call without an answer changed nothing
 abbrev pub StepIf : State → Event → Option Answer → State → Type 0

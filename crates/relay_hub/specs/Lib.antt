@@ -24,3 +24,4 @@ pub mod Call
 pub mod Asked
 pub mod Stands
 pub mod Shed
+pub mod Since

@@ -23,10 +23,10 @@ use Rattle.relay_hub.specs.Admitted.{permitted, affordable}
 use Rattle.relay_hub.specs.declared.config.HubConfig.{HubConfig}
 use Rattle.relay_hub.specs.declared.event.Answer.{Answer}
 use Rattle.relay_hub.specs.declared.event.Answer.TheVariants.{Opened, Heard, Drawn, Closed}
-use Rattle.relay_hub.specs.declared.event.Answer.TheVariants.{WillDone, Forgotten}
+use Rattle.relay_hub.specs.declared.event.Answer.TheVariants.{WillDone, Forgotten, Adopted}
 use Rattle.relay_hub.specs.declared.event.Event.{Event}
 use Rattle.relay_hub.specs.declared.event.Event.TheVariants.{Open, Receive, Draw, Close, DoWill}
-use Rattle.relay_hub.specs.declared.event.Event.TheVariants.{Forget}
+use Rattle.relay_hub.specs.declared.event.Event.TheVariants.{Forget, Adopt}
 use Rattle.relay_hub.specs.declared.event.Heard.TheVariants.{Answered}
 
 -- an event and its answer. A call that ran out of memory changed nothing, and has no entry
@@ -145,10 +145,15 @@ extended documents None = documents
 extended documents (Some d) = documents ++ d ∷ []
 
 -- the documents up to a revision, with null at each that they do not have. A session enters a room
--- at its present revision, and all of these are there; or the room begins anew, above every
--- revision that one of its name ever had
+-- at its present revision, and all of these are there; or a new one, above every revision that one
+-- of its name ever had
 abbrev pub reaching : ℕ → List Document → List Document
 reaching rev documents = documents ++ replicate (rev + 1 - length documents) null
+
+-- the documents of a room that begins anew with a document at a revision above all of theirs: null
+-- at each revision that is passed over, and then the document
+abbrev pub renewed : ℕ → Document → List Document → List Document
+renewed rev d documents = documents ++ (replicate (rev - length documents) null ++ d ∷ [])
 
 abbrev pub documents_after : (ℕ → Option Stay) → List Bequest → List Document → List ℕ → Event
     → Answer → List Document
@@ -159,11 +164,14 @@ documents_after homes wills documents name (Receive s text) (Heard (Answered sho
 documents_after homes wills documents name DoWill (WillDone short) =
     extended documents (document_left documents name wills)
 documents_after homes wills documents name (Forget room) (Forgotten rev) =
-    if bytes_eq room name then reaching rev documents else documents
+    if bytes_eq room name then renewed rev null documents else documents
+documents_after homes wills documents name (Adopt room rev d) Adopted =
+    if bytes_eq room name then renewed rev d documents else documents
 documents_after homes wills documents name _ _ = documents
 
 -- the documents of the rooms of that name, one after another: null, and then one for each accepted
--- edit, and null at each revision that was passed over where a room began anew
+-- edit and each that was adopted, and null at each revision that was passed over where a room began
+-- anew
 abbrev pub documents : Log → List ℕ → List Document
 documents [] name = null ∷ []
 documents (e ∷ E) name = documents_after (home E) (left E) (documents E name) name e.event e.answer
@@ -176,7 +184,9 @@ abbrev pub beginning_after : ℕ → List Document → List ℕ → Event → An
 beginning_after was documents name (Open room access) (Opened o) =
     if bytes_eq room name && nat_le (length documents) o.rev then o.rev else was
 beginning_after was documents name (Forget room) (Forgotten rev) =
-    if bytes_eq room name && nat_le (length documents) rev then rev else was
+    if bytes_eq room name then rev else was
+beginning_after was documents name (Adopt room rev d) Adopted =
+    if bytes_eq room name then rev else was
 beginning_after was documents name _ _ = was
 
 abbrev pub beginning : Log → List ℕ → ℕ

@@ -1,14 +1,17 @@
 -- One step of a hub: the answer to an event, and the state after it. What a case does not name is
 -- unchanged.
-use Rattle.std.specs.Prelude.{ℕ, ◌≡◌, ◌+◌, ◌<◌, ◌==◌, Bool, true, false, List, [], ◌∷◌, ◌++◌}
+use Rattle.std.specs.Prelude.{ℕ, ◌≡◌, ◌⊎◌, ◌+◌, ◌<◌, ◌==◌, Bool, true, false, List, [], ◌∷◌, ◌++◌}
 use Rattle.std.specs.Prelude.{Option, Some, None, option_map, Result, Ok, Err, length}
 use Rattle.std.specs.Prelude.{option_and_then, slice_get, slice_set, nat_lt, nat_le, nat_eq, not, ⊤}
+use Rattle.std.specs.Prelude.{◌||◌, max, min}
 use Rattle.std.specs.List.{list_any}
 use Rattle.std.specs.Prelude.{if◌then◌else◌}
+use Rattle.relay_audience.specs.ViewOrder.{same_view}
 use Rattle.relay_history.specs.History.{with_revision}
 use Rattle.relay_outbox.specs.Outbox.{folded}
 use Rattle.relay_outbox.specs.declared.outbox.TheConstants.{MAX_REPLIES}
 use Rattle.relay_patch.specs.Change.{Leads, all_changes}
+use Rattle.relay_patch.specs.declared.bounds.TheConstants.Bounds.{DOCUMENT}
 use Rattle.relay_patch.specs.declared.change.Change.{Change}
 use Rattle.relay_patch.specs.declared.op.Op.{Op}
 use Rattle.relay_view.specs.View.{View}
@@ -29,19 +32,22 @@ use Rattle.relay_room.specs.declared.catch_up.CatchUp.{CatchUp}
 use Rattle.relay_room.specs.declared.catch_up.CatchUp.TheVariants.{Snapshot}
 use Rattle.relay_room.specs.declared.fault.EditFault.{EditFault}
 use Rattle.relay_translate.specs.Translate.{local, afforded}
-use Rattle.relay_tree.specs.Document.{Document, null}
+use Rattle.relay_tree.specs.Document.{Document, null, depth, weight}
 use Rattle.relay_tree.specs.declared.budget.Budget.{Budget}
 use Rattle.relay_limits.specs.declared.TheConstants.{MAX_COUNT}
 use Rattle.relay_hub.specs.declared.config.HubConfig.{HubConfig}
 use Rattle.relay_hub.specs.declared.event.Answer.{Answer}
 use Rattle.relay_hub.specs.declared.event.Answer.TheVariants.{Opened, NotOpened, Heard, Drawn}
 use Rattle.relay_hub.specs.declared.event.Answer.TheVariants.{Closed, WillDone, NoWill, Forgotten}
-use Rattle.relay_hub.specs.declared.event.Answer.TheVariants.{NotForgotten, NoSession}
+use Rattle.relay_hub.specs.declared.event.Answer.TheVariants.{NotForgotten, Adopted}
+use Rattle.relay_hub.specs.declared.event.Answer.TheVariants.{NotAdopted, FloorRaised, NoSession}
 use Rattle.relay_hub.specs.declared.event.Event.{Event}
 use Rattle.relay_hub.specs.declared.event.Event.TheVariants.{Open, Receive, Draw, Close, DoWill}
-use Rattle.relay_hub.specs.declared.event.Event.TheVariants.{Forget}
+use Rattle.relay_hub.specs.declared.event.Event.TheVariants.{Forget, Adopt, RaiseFloor}
 use Rattle.relay_hub.specs.declared.event.Opening.{Opening}
 use Rattle.relay_hub.specs.declared.event.Heard.TheVariants.{Answered, Busy}
+use Rattle.relay_hub.specs.declared.fault.AdoptFault.{AdoptFault}
+use Rattle.relay_hub.specs.declared.fault.AdoptFault.TheVariants as adopt
 use Rattle.relay_hub.specs.declared.fault.ForgetFault.{ForgetFault}
 use Rattle.relay_hub.specs.declared.fault.ForgetFault.TheVariants as forget
 use Rattle.relay_hub.specs.declared.will.Will.{Will as WillLeft}
@@ -137,6 +143,11 @@ pub record AllNotified (d : Document) (changes : List Change) (room : Room) (mos
   pub each : (t : ℕ)
       → NotifiedIn d room (update_for (making most changes room) total made)
       (list_any (nat_eq t) short) (session_in xs t) (session_in ys t)
+  -- none is left out: for each view that a session watches and the edit touches an update was
+  -- made, unless a snapshot is due for the session already, or its outbox folds
+  pub all : (t : ℕ) (x : Session) (v : View) → session_in xs t ≡ Some x → x.view ≡ Some v
+      → x.outbox.due ≡ false → list_any (nat_eq t) short ≡ false
+      → (local changes room.document v ≡ []) ⊎ (list_any (same_view v) made ≡ true)
 
 -- an edit of session s, which is x. If it is accepted: s gets a reply, then all watchers are
 -- notified, and then the room drops what its history may not hold. If it is refused: s gets a
@@ -236,6 +247,16 @@ with_wills wills hub = record {
   rooms = hub.rooms;
   homes = hub.homes;
   wills = wills;
+}
+
+abbrev pub with_floor : ℕ → State → State
+with_floor floor hub = record {
+  config = hub.config;
+  next = hub.next;
+  floor = floor;
+  rooms = hub.rooms;
+  homes = hub.homes;
+  wills = hub.wills;
 }
 
 -- what happens in the room at an index; nothing else changes
@@ -354,30 +375,57 @@ DoesWill (w ∷ wills) old (WillDone short) new = (done : State) × (new ≡ wit
     (λ g h. WillServed old.config w.patch (edited g.room None w.patch) short g h) done
 DoesWill wills old answer new = ⊥
 
--- the first reason why a room cannot begin anew
-abbrev pub anew_fault : RoomSessions → Option ForgetFault
-anew_fault g =
+-- the first reason why a room cannot begin anew with a document at a revision: somebody is in it,
+-- the revision is not above its own or is no count, or the document is not within the bounds
+abbrev pub anew_fault : Document → ℕ → RoomSessions → Option AdoptFault
+anew_fault d rev g =
+    if not (length g.sessions == 0) then Some adopt.Occupied else
+    if nat_le rev (revision g.room) || nat_lt MAX_COUNT rev then Some adopt.NotAbove else
+    if nat_lt DOCUMENT.depth (depth d) then Some adopt.TooDeep else
+    if nat_lt DOCUMENT.weight (weight d) then Some adopt.TooHeavy else None
+
+-- the first reason why the room of a name does not adopt a document at a revision
+abbrev pub adopt_fault_in : Option (List ℕ × RoomSessions) → ℕ → Document → Option AdoptFault
+adopt_fault_in None rev d = Some adopt.NoRoom
+adopt_fault_in (Some room) rev d = anew_fault d rev room.1
+
+abbrev pub adopt_fault : State → List ℕ → ℕ → Document → Option AdoptFault
+adopt_fault hub name rev d =
+    adopt_fault_in (option_and_then (slice_get hub.rooms) (index_named name hub.rooms)) rev d
+
+-- the first reason why a room cannot begin anew with null at its next revision
+abbrev pub forget_fault_of : RoomSessions → Option ForgetFault
+forget_fault_of g =
     if not (length g.sessions == 0) then Some forget.Occupied else
     if nat_le MAX_COUNT (revision g.room) then Some forget.Exhausted else None
 
 -- the first reason not to forget the room of a name
 abbrev pub forget_fault_in : Option (List ℕ × RoomSessions) → Option ForgetFault
 forget_fault_in None = Some forget.NoRoom
-forget_fault_in (Some room) = anew_fault room.1
+forget_fault_in (Some room) = forget_fault_of room.1
 
 abbrev pub forget_fault : State → List ℕ → Option ForgetFault
 forget_fault hub name =
     forget_fault_in (option_and_then (slice_get hub.rooms) (index_named name hub.rooms))
 
--- the room of that name, in which nobody is, begins anew: its document is null at the next
--- revision, and it remembers no change
-pub record Forgets (old : State) (name : List ℕ) (rev : ℕ) (new : State) : Type 0 where
+-- the room of that name, in which nobody is, begins anew: it has that document at that revision,
+-- which is above its own, and remembers no change
+pub record BeginsAnew (old : State) (name : List ℕ) (rev : ℕ) (d : Document)
+    (new : State) : Type 0 where
   pub index : ℕ
   pub room : RoomSessions
   pub named : index_named name old.rooms ≡ Some index
   pub there : slice_get old.rooms index ≡ Some (name, room)
-  pub newer : rev ≡ revision room.room + 1
-  pub begins : new ≡ with_room index name (room_sessions (begun null rev old.config.history) []) old
+  pub begins : new ≡ with_room index name (room_sessions (begun d rev old.config.history) []) old
+
+-- it is forgotten: it begins anew with null, at the next revision
+abbrev pub Forgets : State → List ℕ → ℕ → State → Type 0
+Forgets old name rev new =
+    (anew : BeginsAnew old name rev null new) × (rev ≡ revision anew.room.room + 1)
+
+-- the floor after it was raised to a revision: it never falls, and stays a count
+abbrev pub raised_floor : ℕ → ℕ → ℕ
+raised_floor rev floor = max floor (min rev MAX_COUNT)
 
 -- An event with its answer takes the hub from one state to the other.
 abbrev pub Step : State → Event → Answer → State → Type 0
@@ -395,3 +443,10 @@ Step old (Forget name) (Forgotten rev) new =
     (forget_fault old name ≡ None) × Forgets old name rev new
 Step old (Forget name) (NotForgotten fault) new = (forget_fault old name ≡ Some fault) × (new ≡ old)
 Step old (Forget name) answer new = ⊥
+Step old (Adopt name rev d) Adopted new =
+    (adopt_fault old name rev d ≡ None) × BeginsAnew old name rev d new
+Step old (Adopt name rev d) (NotAdopted fault) new =
+    (adopt_fault old name rev d ≡ Some fault) × (new ≡ old)
+Step old (Adopt name rev d) answer new = ⊥
+Step old (RaiseFloor rev) FloorRaised new = new ≡ with_floor (raised_floor rev old.floor) old
+Step old (RaiseFloor rev) answer new = ⊥

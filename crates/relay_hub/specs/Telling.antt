@@ -106,7 +106,7 @@ abbrev pub updates_with : Making → (View → Budget) → View → CatchUp
 updates_with make left v = make (left v) v
 
 -- The sessions that watch a view are notified, when so much is left, and afterwards the rest is. No
--- update is made if a snapshot is due for each of them, or memory runs out.
+-- update is made only if a snapshot is due for each of them, or memory runs out.
 pub record ToldOne (d : Document) (room : Room) (make : Making) (left rest : Budget) (v : View)
     (xs ys : List Session) (n : ℕ) : Type 0 where
   pub made : Bool
@@ -117,6 +117,8 @@ pub record ToldOne (d : Document) (room : Room) (make : Making) (left rest : Bud
   pub each : (t : ℕ) (given : View → Budget) → (made ≡ true → given v ≡ left)
       → NotifiedIf (is_view v (view_in xs t)) d room (updates_with make given)
       (list_any (nat_eq t) short) (session_in xs t) (session_in ys t)
+  pub unmade : made ≡ false → (t : ℕ) (x : Session) → session_in xs t ≡ Some x
+      → is_view v x.view ≡ true → x.outbox.due ≡ false → list_any (nat_eq t) short ≡ true
 
 -- the view is one of these
 abbrev pub is_one_of : List View → View → Bool
@@ -140,3 +142,7 @@ pub record ToldThose (d : Document) (room : Room) (make : Making) (total rest : 
       → ((v : View) → is_one_of made v ≡ true → given v ≡ left_for make total made v)
       → NotifiedIf (is_some_of views (view_in xs t)) d room (updates_with make given)
       (list_any (nat_eq t) short) (session_in xs t) (session_in ys t)
+  -- none of these views is left out, unless a snapshot is due for its sessions, or they fold
+  pub all : (t : ℕ) (x : Session) (v : View) → session_in xs t ≡ Some x → x.view ≡ Some v
+      → is_one_of views v ≡ true → x.outbox.due ≡ false → list_any (nat_eq t) short ≡ false
+      → is_one_of made v ≡ true

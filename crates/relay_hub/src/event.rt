@@ -1,7 +1,8 @@
 //! The events of a hub, and its answers.
-use crate::fault::{ForgetFault, OpenFault};
+use crate::fault::{AdoptFault, ForgetFault, OpenFault};
 use crate::text::Text;
 use relay_access::Access;
+use relay_tree::Tree;
 
 /// One event: one call of the hub.
 ///
@@ -16,14 +17,36 @@ use relay_access::Access;
 /// ```
 #[derive(Drop)]
 pub enum Event {
-    Open { room: Text, access: Access },
-    Receive { session: u64, text: Text },
-    Draw { session: u64 },
-    Close { session: u64 },
+    Open {
+        room: Text,
+        access: Access,
+    },
+    Receive {
+        session: u64,
+        text: Text,
+    },
+    Draw {
+        session: u64,
+    },
+    Close {
+        session: u64,
+    },
     /// Of the wills that closed sessions left, the oldest is done.
     DoWill,
     /// The room of that name begins anew.
-    Forget { room: Text },
+    Forget {
+        room: Text,
+    },
+    /// The room of that name begins anew, with this document at this revision.
+    Adopt {
+        room: Text,
+        rev: u64,
+        document: Tree,
+    },
+    /// Rooms that begin from now on begin at this revision or above.
+    RaiseFloor {
+        rev: u64,
+    },
 }
 
 /// A session that was opened.
@@ -90,5 +113,9 @@ pub enum Answer {
     /// The room began anew, at revision `rev`.
     Forgotten { rev: u64 },
     NotForgotten(ForgetFault),
+    /// The room began anew, with the document and at the revision of the event.
+    Adopted,
+    NotAdopted(AdoptFault),
+    FloorRaised,
     NoSession,
 }

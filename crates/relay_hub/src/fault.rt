@@ -75,6 +75,39 @@ pub enum ForgetFault {
     NoMemory,
 }
 
+/// The causes for which a room adopts no document, in the order of the checks. The hub is
+/// unchanged.
+///
+/// ```
+/// let mut hub = Hub::new(alloc, 1, 1, 64, 32).ok()?;
+/// let session = hub.open(alloc, "board", Access::ReadOnly).ok()?.session;
+/// let null = || Tree::from(Node::Null);
+/// assert!(rt; hub.adopt(alloc, "another", 1, null()) == Err(AdoptFault::NoRoom));
+/// assert!(rt; hub.adopt(alloc, "board", 1, null()) == Err(AdoptFault::Occupied));
+/// hub.close(session).ok()?;
+/// assert!(rt; hub.adopt(alloc, "board", 0, null()) == Err(AdoptFault::NotAbove));
+/// ```
+#[derive(Clone, Copy, Debug, PartialEq, Eq, Error)]
+pub enum AdoptFault {
+    /// No room has that name.
+    #[error("no such room")]
+    NoRoom,
+    /// A session is open in the room.
+    #[error("somebody is in the room")]
+    Occupied,
+    /// The revision is not above that of the room, or is above `2^53 - 1`.
+    #[error("the revision is not above the present one")]
+    NotAbove,
+    /// The document is deeper than `Bounds::DOCUMENT` allows.
+    #[error("too deep")]
+    TooDeep,
+    /// The document weighs more than `Bounds::DOCUMENT` allows.
+    #[error("too heavy")]
+    TooHeavy,
+    #[error("out of memory")]
+    NoMemory,
+}
+
 /// The cause for which a session cannot be served. The hub is unchanged.
 ///
 /// ```

@@ -25,6 +25,7 @@ ghost use Rattle.relay_hub.specs.declared.event.Heard.TheVariants.{Answered};
 ghost use Rattle.relay_hub.specs.declared.fault.HubNewFault.TheVariants.{BadLimit};
 
 mod queries;
+mod restoring;
 mod running;
 
 use crate::config::HubConfig;
@@ -439,7 +440,7 @@ impl Hub {
         let Some(room_sessions) = self.rooms.get_index_mut(index) else {
             unreachable!()
         };
-        room_sessions.begin_anew(alloc, self.config.history)
+        room_sessions.forget(alloc, self.config.history)
     }
 
     /// Gives memory back after an allocation was refused: each room forgets its history, if a

@@ -1,10 +1,16 @@
 //! The relay without sockets: rooms, sessions and events. One event is one call of [`Hub::open`],
-//! [`Hub::receive`], [`Hub::draw`], [`Hub::close`], [`Hub::do_will`] or [`Hub::forget`]. A call
-//! ends before the next one starts, so concurrent clients are events in any order.
+//! [`Hub::receive`], [`Hub::draw`], [`Hub::close`], [`Hub::do_will`], [`Hub::forget`],
+//! [`Hub::adopt`] or [`Hub::raise_floor`]. A call ends before the next one starts, so concurrent
+//! clients are events in any order.
 //!
 //! Rooms are kept by name, and stay when their sessions are closed. One whose document is `null`
 //! and in which nobody is may be evicted for another when there are as many as may be. A session
 //! belongs to one room.
+//!
+//! A server that begins from a store has each room adopt the document and the revision that the
+//! store kept, and raises the revision at which other rooms begin, before it serves anybody. Both
+//! are events, so the hub still stands for a log, and what is promised of each client holds of one
+//! that resumes from before the server began.
 #![tactic(auto)]
 
 mod admission;
@@ -26,6 +32,7 @@ mod message_counts;
 mod report;
 mod requests;
 mod room_sessions;
+mod room_update;
 mod session;
 mod shed;
 mod snapshot_text;
@@ -39,9 +46,10 @@ mod will;
 
 pub use config::HubConfig;
 pub use event::{Answer, Event, Heard, Opening};
-pub use fault::{ForgetFault, HubFault, HubNewFault, NoSession, OpenFault, RunFault};
+pub use fault::{AdoptFault, ForgetFault, HubFault, HubNewFault, NoSession, OpenFault, RunFault};
 pub use hub::Hub;
 pub use message_counts::{FaultCount, MessageCounts, SnapshotCounts};
+pub use room_update::RoomUpdate;
 pub use summary::RoomSummary;
 pub use text::Text;
 pub use told::Told;

@@ -8,7 +8,7 @@ use crate::asked::{Asked, ask};
 use crate::caller::{Caller, session_at};
 use crate::config::HubConfig;
 use crate::event::Heard;
-use crate::fault::{ForgetFault, HubFault};
+use crate::fault::{AdoptFault, ForgetFault, HubFault};
 use crate::message_counts::MessageCounts;
 use crate::report::Report;
 use crate::session::Session;
@@ -19,8 +19,8 @@ use crate::{cost, requests};
 use bytes::ByteStr;
 use relay_audience::Audiences;
 use relay_limits::MAX_COUNT;
-use relay_patch::Patch;
-use relay_room::{Room, RoomFault};
+use relay_patch::{Bounds, Patch};
+use relay_room::Room;
 use relay_tree::{Budget, Node, Scratch, Tree};
 use std::alloc::{AllocError, Global};
 use std::marker::Model;
@@ -60,16 +60,15 @@ impl RoomSessions {
     ghost use Rattle.std.specs.Prelude.{length, option_map};
     ghost use Rattle.relay_limits.specs.declared.TheConstants.{MAX_REVISIONS};
     ghost use Rattle.relay_room.specs.Room.{begun, revision};
-    ghost use Rattle.relay_tree.specs.Document.{null};
+    ghost use Rattle.relay_tree.specs.Document.{null, weight};
     ghost use Rattle.relay_hub.specs.Call.{receiving, drawing, ReceivesIf, WillServedIf, DrawsIf};
     ghost use Rattle.relay_hub.specs.Call.{HasSpace, IsAbove};
     ghost use Rattle.relay_hub.specs.Caller.{IsCaller};
     ghost use Rattle.relay_hub.specs.Session.{Session, waiting};
     ghost use Rattle.relay_hub.specs.Shed.{shed_room};
     ghost use Rattle.relay_hub.specs.State.{room_sessions, is_evictable, above, session_in};
-    ghost use Rattle.relay_hub.specs.Step.{ChangesOnly, Serves, anew_fault};
+    ghost use Rattle.relay_hub.specs.Step.{ChangesOnly, Serves, anew_fault, forget_fault_of};
     ghost use Rattle.relay_hub.specs.Told.{ChangesTold, ChangesToldAnd};
-    ghost use Rattle.relay_hub.specs.declared.fault.ForgetFault.TheVariants.{NoMemory};
 
     /// A room with its first session, which watches nothing.
     pub fn begin(alloc: Global, room: Room, first: Session) -> Result<RoomSessions, AllocError>
@@ -199,33 +198,81 @@ impl RoomSessions {
         )
     }
 
-    /// Begins anew, at the next revision, which is returned, with the document `null` and no change
-    /// remembered. A fault changes nothing.
-    pub fn begin_anew(&mut self, alloc: Global, history: u64) -> Result<u64, ForgetFault>
+    /// Begins anew with the document `null`, at the next revision, which is returned. A fault
+    /// changes nothing.
+    pub fn forget(&mut self, alloc: Global, history: u64) -> Result<u64, ForgetFault>
         requires least { 1 ≤ history }
         requires most { history ≤ MAX_REVISIONS }
         ensures ok { IfOk result (λ rev. (rev ≡ revision self.old.room + 1)
             × (self.new ≡ room_sessions (begun null rev history) [])) }
-        ensures fault { IfErr result (λ fault. fault ≢ NoMemory
-            → anew_fault self.old ≡ Some fault) }
-        ensures may { OnOk result (anew_fault self.old ≡ None) }
-        ensures no_memory { IsErrOf result NoMemory → anew_fault self.old ≡ None }
+        ensures fault { IfErr result (λ fault. fault ≢ ForgetFault.NoMemory
+            → forget_fault_of self.old ≡ Some fault) }
+        ensures may { OnOk result (forget_fault_of self.old ≡ None) }
+        ensures no_memory { IsErrOf result ForgetFault.NoMemory
+            → forget_fault_of self.old ≡ None }
         ensures err { OnErr result (self.new ≡ self.old) }
     {
-        if !self.sessions.is_empty() {
-            return Err(ForgetFault::Occupied);
-        }
-        let rev = self.room.revision();
-        if rev >= MAX_COUNT {
-            return Err(ForgetFault::Exhausted);
-        }
-        self.snapshot = SnapshotText::none();
-        match Room::starting_at(alloc, Tree::from(Node::Null), rev + 1, history) {
-            Ok(room) => self.room = room,
-            Err(RoomFault::NoMemory) => return Err(ForgetFault::NoMemory),
+        let rev = self.room.revision() + 1;
+        match self.begin_anew(alloc, Tree::from(Node::Null), rev, history) {
+            Ok(()) => Ok(rev),
+            Err(AdoptFault::Occupied) => Err(ForgetFault::Occupied),
+            Err(AdoptFault::NotAbove) => Err(ForgetFault::Exhausted),
+            Err(AdoptFault::NoMemory) => Err(ForgetFault::NoMemory),
             Err(_) => unreachable!(),
         }
-        Ok(rev + 1)
+    }
+
+    /// Begins anew with this document at this revision, and no change remembered. A fault changes
+    /// nothing.
+    pub fn begin_anew(
+        &mut self,
+        alloc: Global,
+        document: Tree,
+        rev: u64,
+        history: u64,
+    ) -> Result<(), AdoptFault>
+        requires least { 1 ≤ history }
+        requires most { history ≤ MAX_REVISIONS }
+        ensures ok { OnOk result (self.new ≡ room_sessions (begun document rev history) []) }
+        ensures fault { IfErr result (λ fault. fault ≢ AdoptFault.NoMemory
+            → anew_fault document rev self.old ≡ Some fault) }
+        ensures may { OnOk result (anew_fault document rev self.old ≡ None) }
+        ensures no_memory { IsErrOf result AdoptFault.NoMemory
+            → anew_fault document rev self.old ≡ None }
+        ensures err { OnErr result (self.new ≡ self.old) }
+    {
+        let weight = self.may_begin(&document, rev)?;
+        self.snapshot = SnapshotText::none();
+        match Room::holding(alloc, document, weight, rev, history) {
+            Ok(room) => self.room = room,
+            Err(_) => return Err(AdoptFault::NoMemory),
+        }
+        Ok(())
+    }
+
+    /// The weight of a document with which the room may begin anew at this revision, or the first
+    /// reason why it may not. Allocates nothing.
+    pub fn may_begin(&self, document: &Tree, rev: u64) -> Result<u64, AdoptFault>
+        ensures ok { IfOk result (λ n. (n ≡ weight document.now)
+            × (anew_fault document.now rev self.now ≡ None)) }
+        ensures fault { IfErr result (λ fault.
+            anew_fault document.now rev self.now ≡ Some fault) }
+        ensures memory { IsErrOf result AdoptFault.NoMemory → ⊥ }
+    {
+        if !self.sessions.is_empty() {
+            return Err(AdoptFault::Occupied);
+        }
+        if rev <= self.room.revision() || rev > MAX_COUNT {
+            return Err(AdoptFault::NotAbove);
+        }
+        if document.depth() > Bounds::DOCUMENT.depth {
+            return Err(AdoptFault::TooDeep);
+        }
+        let weight = document.weight();
+        if weight > Bounds::DOCUMENT.weight {
+            return Err(AdoptFault::TooHeavy);
+        }
+        Ok(weight)
     }
 
     /// Drops the oldest changes that the budget does not pay for and the text that is kept of a

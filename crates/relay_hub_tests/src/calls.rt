@@ -1,6 +1,6 @@
 //! The calls of a hub, as acts of rows. A number behind the word is a session, or the index of a
 //! room.
-use crate::shared::{Came, at_revision, number, owned, repeated, words};
+use crate::shared::{Came, at_revision, number, owned, repeated, tree_of, words};
 use crate::weights::WATCHING;
 use bytes::ByteStr;
 use relay_access::Access;
@@ -49,6 +49,9 @@ impl<R: AllocGlobal> Subject<R> for Hubs {
             "do-will" => words(alloc, hub.do_will(alloc)),
             "has-wills" => words(alloc, hub.has_wills()),
             "forget" => words(alloc, hub.forget(alloc, rest)),
+            "adopt" => adopted(alloc, hub, rest),
+            "raise-floor" => raised(alloc, hub, number(rest)?),
+            "floor" => words(alloc, hub.floor()),
             "told" => words(alloc, hub.told().sessions.as_slice()),
             "shed" => give_memory_back(alloc, hub),
             "edits" => words(alloc, hub.edits()),
@@ -62,6 +65,40 @@ impl<R: AllocGlobal> Subject<R> for Hubs {
 /// The number of the session.
 fn opened(alloc: Global, hub: &mut Hub, room: &str, access: Access) -> Result<u64, OpenFault> {
     Ok(hub.open(alloc, room, access)?.session)
+}
+
+/// The outcome of an adoption. The name of the room, the revision and the document stand in one
+/// text.
+fn adopted(alloc: Global, hub: &mut Hub, said: &str) -> Came {
+    let (room, rest) = cut(said);
+    let (rev, text) = cut(rest);
+    let document = document_of(alloc, text)?;
+    words(alloc, hub.adopt(alloc, room, number(rev)?, document))
+}
+
+/// The document that a text spells. `letters` and `lists` stand for a text of so many letters, and
+/// for so many lists in one another.
+fn document_of(alloc: Global, text: &str) -> Option<Tree> {
+    let (word, count) = cut(text);
+    let text = match word {
+        "letters" => {
+            let letters = repeated(alloc, "a", number(count)?)?;
+            format!(in alloc; "\"{letters}\"").ok()?
+        }
+        "lists" => {
+            let opened = repeated(alloc, "[", number(count)?)?;
+            let closed = repeated(alloc, "]", number(count)?)?;
+            format!(in alloc; "{opened}{closed}").ok()?
+        }
+        _ => owned(alloc, text)?,
+    };
+    tree_of(alloc, text.as_str())
+}
+
+/// The floor after it was raised to this revision.
+fn raised(alloc: Global, hub: &mut Hub, rev: u64) -> Came {
+    hub.raise_floor(rev);
+    words(alloc, hub.floor())
 }
 
 /// The outcome of an act on a session, whose number stands in front of the text, if there is one.

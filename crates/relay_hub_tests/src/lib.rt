@@ -9,6 +9,8 @@
 #![tactic(auto)]
 
 #[cfg(test)]
+mod adopting;
+#[cfg(test)]
 mod calls;
 #[cfg(test)]
 mod costs;

@@ -4,6 +4,7 @@
 use crate::shared::{Came, at_revision, owned, words};
 use relay_access::Access;
 use relay_hub::{Answer, Event, Hub, HubFault, Text};
+use relay_tree::{Node, Tree};
 use std::alloc::{AllocError, AllocGlobal, Global};
 use std::process::Abort;
 use std::test::Fail;
@@ -36,6 +37,7 @@ fn events(alloc: Global) -> Result<Vec<Event>, AllocError> {
         events.push(Event::Draw { session: 1 })?;
     }
     leave(alloc, &mut events)?;
+    begin_anew(alloc, &mut events)?;
     Ok(events)
 }
 
@@ -48,6 +50,19 @@ fn leave(alloc: Global, events: &mut Vec<Event>) -> Result<(), AllocError> {
     events.push(Event::DoWill)?;
     let room = text_of(alloc, "r")?;
     events.push(Event::Forget { room })?;
+    Ok(())
+}
+
+/// The room adopts a document, and the floor is raised.
+fn begin_anew(alloc: Global, events: &mut Vec<Event>) -> Result<(), AllocError> {
+    let room = text_of(alloc, "r")?;
+    let document = Tree::from(Node::Text(String::from_str(alloc, "kept")?));
+    events.push(Event::Adopt {
+        room,
+        rev: 7,
+        document,
+    })?;
+    events.push(Event::RaiseFloor { rev: 9 })?;
     Ok(())
 }
 
@@ -66,10 +81,12 @@ Heard(Answered { short: 0 })
 Closed
 WillDone { short: 0 }
 NoWill
-Forgotten { rev: 3 }"#;
+Forgotten { rev: 3 }
+Adopted
+FloorRaised"#;
 
 /// The number of them.
-const COUNT: usize = 15;
+const COUNT: usize = 17;
 
 /// An answer, as text. Of a draw it is the text itself, if there was one.
 fn in_words(alloc: Global, answer: &Answer) -> Came {

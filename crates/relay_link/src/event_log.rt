@@ -25,10 +25,14 @@ pub(crate) struct EventLog {
 
 impl Model for EventLog {
     ghost use Rattle.std.specs.Prelude.{List, ◌≤◌, vec_capacity};
+    ghost use Rattle.std.specs.Coded.{coded_list};
+    ghost use Rattle.relay_hub.specs.contracts.event.Event as event;
     ghost use Rattle.relay_hub.specs.declared.event.Event.{Event};
     ghost use Rattle.relay_link.specs.declared.event_log.TheConstants.{MAX_EVENTS};
 
     ghost Value = { List Event };
+
+    ghost coded = { coded_list event.the_row.coded };
 
     ghost view = { λ log. log.events.items };
 

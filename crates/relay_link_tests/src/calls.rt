@@ -107,7 +107,8 @@ fn is_own(event: &Event) -> bool {
         Event::Receive { session, .. } | Event::Draw { session } | Event::Close { session } => {
             *session == 2
         }
-        Event::DoWill | Event::Forget { .. } => false,
+        Event::DoWill | Event::Forget { .. } | Event::Adopt { .. } | Event::RaiseFloor { .. } =>
+            false,
     }
 }
 

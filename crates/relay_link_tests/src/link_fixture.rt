@@ -196,6 +196,11 @@ pub(crate) fn tell_event(told: &mut String, event: &Event) -> Result<(), AllocEr
             let room = room.as_str();
             write!(told, "forget {room}; ")
         }
+        Event::Adopt { room, rev, .. } => {
+            let room = room.as_str();
+            write!(told, "adopt {room} at {rev}; ")
+        }
+        Event::RaiseFloor { rev } => write!(told, "raise the floor to {rev}; "),
     }
 }
 

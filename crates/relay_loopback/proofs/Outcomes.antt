@@ -5,10 +5,11 @@ use Rattle.relay_hub.specs.Step.{DoesWill}
 use Rattle.relay_hub.specs.declared.event.Answer.{Answer}
 use Rattle.relay_hub.specs.declared.event.Answer.TheVariants.{Opened, NotOpened, Heard, Drawn}
 use Rattle.relay_hub.specs.declared.event.Answer.TheVariants.{Closed, WillDone, NoWill, Forgotten}
-use Rattle.relay_hub.specs.declared.event.Answer.TheVariants.{NotForgotten, NoSession}
+use Rattle.relay_hub.specs.declared.event.Answer.TheVariants.{NotForgotten, Adopted}
+use Rattle.relay_hub.specs.declared.event.Answer.TheVariants.{NotAdopted, FloorRaised, NoSession}
 use Rattle.relay_hub.specs.declared.event.Event.{Event}
 use Rattle.relay_hub.specs.declared.event.Event.TheVariants.{Open, Receive, Draw, Close, DoWill}
-use Rattle.relay_hub.specs.declared.event.Event.TheVariants.{Forget}
+use Rattle.relay_hub.specs.declared.event.Event.TheVariants.{Forget, Adopt, RaiseFloor}
 use Rattle.relay_hub.specs.declared.will.Will.{Will}
 use Rattle.relay_script.specs.Transport.{HubComes}
 use Rattle.relay_script.specs.declared.outcome.Outcome.{Outcome}
@@ -37,6 +38,12 @@ answers_will [] (Forgotten rev) old new does = absurd does
 answers_will (w ∷ wills) (Forgotten rev) old new does = absurd does
 answers_will [] (NotForgotten fault) old new does = absurd does
 answers_will (w ∷ wills) (NotForgotten fault) old new does = absurd does
+answers_will [] Adopted old new does = absurd does
+answers_will (w ∷ wills) Adopted old new does = absurd does
+answers_will [] (NotAdopted fault) old new does = absurd does
+answers_will (w ∷ wills) (NotAdopted fault) old new does = absurd does
+answers_will [] FloorRaised old new does = absurd does
+answers_will (w ∷ wills) FloorRaised old new does = absurd does
 
 comes_of_will : (old new : State) (came : Outcome) → HubComes old DoWill came new
     → CanCome DoWill came
@@ -53,3 +60,5 @@ can_come old new (Draw s) came comes = comes
 can_come old new (Close s) came comes = comes
 can_come old new DoWill came comes = comes_of_will (hub_of old) (hub_of new) came comes
 can_come old new (Forget room) came comes = comes
+can_come old new (Adopt room rev d) came comes = comes
+can_come old new (RaiseFloor rev) came comes = comes

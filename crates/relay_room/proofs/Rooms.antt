@@ -24,18 +24,24 @@ no_changes : (n : ℕ) → in_order (take n []) ≡ []
 no_changes zero = refl
 no_changes (suc n) = refl
 
+pub begun_within : (document : Document) (rev limit : ℕ) → within DOCUMENT document ≡ Ok document
+    → 1 ≤ limit → limit ≤ MAX_REVISIONS → rev ≤ LAST_REVISION
+    → IsRoom (begun document rev limit)
+begun_within document rev limit inside least most last = record {
+  history =
+      record { limited = (least, most); within = omega arith; made = omega arith; last = last };
+  within = inside;
+  fit = tt;
+  led = λ r reaches. (document, rw (no_changes (rev - r)) refl);
+}
+
 pub begun_is_room : (document : Document) (rev limit : ℕ)
     → exceeds DOCUMENT.depth (depth document) ≡ false
     → exceeds DOCUMENT.weight (weight document) ≡ false
     → 1 ≤ limit → limit ≤ MAX_REVISIONS → rev ≤ LAST_REVISION
     → IsRoom (begun document rev limit)
-begun_is_room document rev limit flat light least most last = record {
-  history =
-      record { limited = (least, most); within = omega arith; made = omega arith; last = last };
-  within = rw (flat, light) refl;
-  fit = tt;
-  led = λ r reaches. (document, rw (no_changes (rev - r)) refl);
-}
+begun_is_room document rev limit flat light least most last =
+    begun_within document rev limit (rw (flat, light) refl) least most last
 
 fit_take : (n : ℕ) (revisions : List (List Change)) → AllByRecursion Fit revisions
     → AllByRecursion Fit (take n revisions)

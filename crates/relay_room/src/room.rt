@@ -1,10 +1,10 @@
 //! A room: its document and its history. Only the history stores the revision, so the two cannot
 //! disagree.
 use crate::fault::RoomFault;
-use relay_history::{History, LAST_REVISION};
+use relay_history::{History, HistoryFault, LAST_REVISION};
 use relay_patch::Bounds;
 use relay_tree::{Budget, Node, Tree};
-use std::alloc::Global;
+use std::alloc::{AllocError, Global};
 use std::marker::Model;
 
 /// A shared document and the changes of its last revisions. Contracts see it as a `State`: the
@@ -40,10 +40,14 @@ impl Model for Room {
 }
 
 impl Room {
-    ghost use Rattle.std.specs.Prelude.{◌≡◌, ◌<◌, ◌↔◌, ◌⊎◌, Some, None, IfOk, IfErr, IsErrOf};
+    ghost use Rattle.std.specs.Prelude.{◌≡◌, ◌<◌, ◌≤◌, ◌↔◌, ◌⊎◌, Some, None, Ok, IfOk, IfErr};
+    ghost use Rattle.std.specs.Prelude.{IsErrOf};
     ghost use Rattle.relay_tree.specs.Document.{Document};
     ghost use Rattle.relay_tree.specs.Document.{null, weight};
     ghost use Rattle.relay_history.specs.Trimmed.{history_weight};
+    ghost use Rattle.relay_history.specs.declared.history.TheConstants.{LAST_REVISION};
+    ghost use Rattle.relay_patch.specs.Patch.{within};
+    ghost use Rattle.relay_patch.specs.declared.bounds.TheConstants.Bounds.{DOCUMENT};
     ghost use Rattle.relay_limits.specs.declared.TheConstants.{MAX_REVISIONS};
     ghost use Rattle.relay_room.specs.Room.{IsRoom, begun, revision, trimmed};
     ghost use Rattle.relay_room.specs.Fault.{room_fault};
@@ -103,6 +107,42 @@ impl Room {
         Ok(Room {
             document,
             weight,
+            history,
+        })
+    }
+
+    /// Creates a room with a document that was measured: it weighs `known`, and is within
+    /// `Bounds::DOCUMENT`. Otherwise as [`Room::starting_at`], whose checks it does not repeat.
+    /// Returns `AllocError` if memory runs out, which drops the document.
+    ///
+    /// ```
+    /// let document = read(alloc, "[1, 2]").ok()?;
+    /// let weight = document.weight();
+    /// let room = Room::holding(alloc, document, weight, 7, 64).ok()?;
+    /// assert!(rt; room.revision() == 7 && room.weight() == 8 + 8 + 8);
+    /// ```
+    pub fn holding(
+        alloc: Global,
+        document: Tree,
+        known: u64,
+        rev: u64,
+        limit: u64,
+    ) -> Result<Room, AllocError>
+        requires weight { known ≡ weight document }
+        requires within { within DOCUMENT document ≡ Ok document }
+        requires last { rev ≤ LAST_REVISION }
+        requires least { 1 ≤ limit }
+        requires most { limit ≤ MAX_REVISIONS }
+        ensures { IfOk result (λ room. room ≡ begun document rev limit) }
+    {
+        let history = match History::new(alloc, limit, rev) {
+            Ok(history) => history,
+            Err(HistoryFault::NoMemory) => return Err(AllocError),
+            Err(HistoryFault::BadLimit) => unreachable!(),
+        };
+        Ok(Room {
+            document,
+            weight: known,
             history,
         })
     }

@@ -6,7 +6,8 @@ use Rattle.relay_follow.specs.declared.fault.HearFault.TheVariants as hear
 use Rattle.relay_hub.specs.declared.event.Answer.{Answer}
 use Rattle.relay_hub.specs.declared.event.Answer.TheVariants.{Opened, NotOpened, Heard, Drawn}
 use Rattle.relay_hub.specs.declared.event.Answer.TheVariants.{Closed, WillDone, NoWill, Forgotten}
-use Rattle.relay_hub.specs.declared.event.Answer.TheVariants.{NotForgotten, NoSession}
+use Rattle.relay_hub.specs.declared.event.Answer.TheVariants.{NotForgotten, Adopted}
+use Rattle.relay_hub.specs.declared.event.Answer.TheVariants.{NotAdopted, FloorRaised, NoSession}
 use Rattle.relay_hub.specs.declared.event.Heard.TheVariants.{Answered, Busy}
 use Rattle.relay_hub.specs.declared.fault.HubFault.{HubFault}
 use Rattle.relay_hub.specs.declared.fault.HubFault.TheVariants as hub
@@ -55,6 +56,9 @@ answer_text name (WillDone short) = []
 answer_text name NoWill = []
 answer_text name (Forgotten rev) = []
 answer_text name (NotForgotten fault) = []
+answer_text name Adopted = []
+answer_text name (NotAdopted fault) = []
+answer_text name FloorRaised = []
 answer_text name NoSession = unknown_text name
 
 -- outcomes of an event

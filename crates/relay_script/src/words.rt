@@ -91,7 +91,10 @@ impl Words<'_> {
             Answer::WillDone { .. }
             | Answer::NoWill
             | Answer::Forgotten { .. }
-            | Answer::NotForgotten(_) => Ok(String::new(alloc)),
+            | Answer::NotForgotten(_)
+            | Answer::Adopted
+            | Answer::NotAdopted(_)
+            | Answer::FloorRaised => Ok(String::new(alloc)),
         }
     }
 

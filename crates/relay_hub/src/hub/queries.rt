@@ -8,19 +8,22 @@ ghost use Rattle.relay_hub.specs.Summary.{room_named, shown_by, summary_of};
 ghost use Rattle.relay_tree.specs.Document.{saturated};
 ghost use Rattle.relay_hub.specs.Queries.{room_and_session, may_hear, rooms_weight, truth};
 ghost use Rattle.relay_hub.specs.Queries.{is_due, replies};
+ghost use Rattle.relay_hub.specs.Since.{message_there, revision_there, Tells};
 
 use super::Hub;
 use crate::config::HubConfig;
 use crate::fault::HubFault;
 use crate::message_counts::MessageCounts;
 use crate::room_sessions::RoomSessions;
+use crate::room_update::{RoomUpdate, update_since};
 use crate::session::Session;
 use crate::summary::{RoomSummary, summary_of};
 use crate::told::Told;
 use indexmap::IndexMap;
 use relay_room::Room;
 use relay_tree::Tree;
-use std::alloc::Global;
+use relay_view::View;
+use std::alloc::{AllocError, Global};
 
 impl Hub {
     /// The configuration that it was made with. Its clause `is` tells the caller what holds of
@@ -268,6 +271,39 @@ impl Hub {
         match self.rooms.get_index_of(name) {
             Some(index) => self.room_at(index),
             None => None,
+        }
+    }
+
+    /// The message for a client that holds its view of revision `held` of the room at an index, or
+    /// nothing: a patch; or a snapshot, if it holds nothing, or the changes since are no longer all
+    /// held, or they weigh more than the document. `None` if that is the present revision, or no
+    /// room has that index. No session is told anything.
+    ///
+    /// ```
+    /// let mut hub = Hub::new(alloc, 1, 1, 64, 32).ok()?;
+    /// let session = hub.open(alloc, "board", Access::ReadWrite).ok()?.session;
+    /// let edit = r#"{"do": "edit", "id": 1, "patch": [{"op": "add", "path": "", "value": 7}]}"#;
+    /// hub.receive(alloc, session, edit).ok()?;
+    /// let whole = View::read(alloc, &read(alloc, r#"[""]"#).ok()?).ok()?;
+    /// let update = hub.update_since(alloc, 0, Some(0), &whole).ok()??;
+    /// assert!(rt; !update.is_snapshot && update.revision == 1);
+    /// assert!(rt; hub.update_since(alloc, 0, Some(1), &whole).ok()?.is_none());
+    /// ```
+    #[tactic(auto, using(crate::proofs::Representation::room_at, crate::proofs::Representation::no_room_at))]
+    pub fn update_since(
+        &self,
+        alloc: Global,
+        index: usize,
+        held: Option<u64>,
+        view: &View,
+    ) -> Result<Option<RoomUpdate>, AllocError>
+        ensures { IfOk result (λ update. Tells
+            (revision_there (slice_get self.now.rooms index))
+            (message_there (slice_get self.now.rooms index) view.now held) update) }
+    {
+        match self.rooms.get_index(index) {
+            Some((_, room_sessions)) => update_since(alloc, room_sessions.room(), held, view),
+            None => Ok(None),
         }
     }
 

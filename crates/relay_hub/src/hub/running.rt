@@ -1,16 +1,18 @@
 //! Events of a hub, carried out in order.
-ghost use Rattle.std.specs.Prelude.{◌≡◌, ◌<◌, ◌⊎◌, IfOk, IfErr, OnErr, length};
+ghost use Rattle.std.specs.Prelude.{◌≡◌, ◌<◌, ◌⊎◌, None, IfOk, IfErr, OnErr, length};
 ghost use Rattle.relay_hub.specs.Call.{done, followed, Runs};
 ghost use Rattle.relay_hub.specs.Log.{Log};
 ghost use Rattle.relay_hub.specs.Memory.{TakesMemory, LacksMemory};
 ghost use Rattle.relay_hub.specs.Stands.{StandsFor, EachHoldsPresent, EachIsAtNamed};
-ghost use Rattle.relay_hub.specs.Step.{Step};
+ghost use Rattle.relay_hub.specs.Step.{Step, adopt_fault};
 ghost use Rattle.relay_hub.specs.declared.config.HubConfig.{HubConfig};
+ghost use Rattle.relay_hub.specs.declared.event.Event.TheVariants.{Adopt};
 
 use super::Hub;
 use crate::event::{Answer, Event};
-use crate::fault::{ForgetFault, HubFault, NoSession, OpenFault, RunFault};
+use crate::fault::{AdoptFault, ForgetFault, HubFault, NoSession, OpenFault, RunFault};
 use crate::text::Text;
+use relay_tree::Tree;
 use std::alloc::{AllocError, Global};
 
 impl Hub {
@@ -98,6 +100,42 @@ impl Hub {
                 Err(ForgetFault::NoMemory) => Err(AllocError),
                 Err(fault) => Ok(Answer::NotForgotten(fault)),
             },
+            Event::Adopt {
+                room,
+                rev,
+                document,
+            } => self.adopt_copy(alloc, room.as_str(), *rev, document),
+            Event::RaiseFloor { rev } => {
+                self.raise_floor(*rev);
+                Ok(Answer::FloorRaised)
+            }
+        }
+    }
+
+    /// Has a room adopt a copy of a document. Memory is refused for the copy only if the room would
+    /// adopt the document.
+    fn adopt_copy(
+        &mut self,
+        alloc: Global,
+        room: &str,
+        rev: u64,
+        document: &Tree,
+    ) -> Result<Answer, AllocError>
+        ensures ok { IfOk result (λ answer.
+            Step self.old (Adopt room.now rev document.now) answer self.new) }
+        ensures err { OnErr result (self.new ≡ self.old) }
+        ensures no_memory { OnErr result (adopt_fault self.old room.now rev document.now ≡ None) }
+    {
+        let Ok(copy) = document.copy(alloc) else {
+            return match self.adopt_fault(room, rev, document) {
+                Some(fault) => Ok(Answer::NotAdopted(fault)),
+                None => Err(AllocError),
+            };
+        };
+        match self.adopt(alloc, room, rev, copy) {
+            Ok(()) => Ok(Answer::Adopted),
+            Err(AdoptFault::NoMemory) => Err(AllocError),
+            Err(fault) => Ok(Answer::NotAdopted(fault)),
         }
     }
 }

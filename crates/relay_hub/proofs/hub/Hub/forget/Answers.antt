@@ -23,21 +23,21 @@ at c =
     ∙ c.in-Some.is
 
 abbrev after : goal.After-self-2-1 → State
-after c = hub_with c.self.inside c.in-Some.index c.begin_anew.new.self
+after c = hub_with c.self.inside c.in-Some.index c.forget.new.self
 
 step : (c : goal.After-self-2-1)
-    → StepIf (hub_of c.self.inside) (Forget c.args.room.now) (forgetting c.begin_anew.result)
+    → StepIf (hub_of c.self.inside) (Forget c.args.room.now) (forgetting c.forget.result)
     (after c)
 step c =
     forgets c.self.inside c.args.room.now c.in-Some.index c.in-Some-get_index_mut.room_sessions.now
-    c.begin_anew.new.self c.begin_anew.result (at c)
-    (sym c.in-Some-get_index_mut.ensures.value) c.begin_anew.ensures.ok c.begin_anew.ensures.may
-    c.begin_anew.ensures.fault c.begin_anew.ensures.err
+    c.forget.new.self c.forget.result (at c)
+    (sym c.in-Some-get_index_mut.ensures.value) c.forget.ensures.ok c.forget.ensures.may
+    c.forget.ensures.fault c.forget.ensures.err
 
 pub invariant_of-self : goal.invariant_of-self
 invariant_of-self c = (
   stays_hub (hub_of c.self.inside) (after c) (Forget c.args.room.now)
-      (forgetting c.begin_anew.result) c.self.invariant.0 (step c),
+      (forgetting c.forget.result) c.self.invariant.0 (step c),
   c.self.invariant.1,
 )
 
@@ -48,7 +48,7 @@ pub returns-clause-stands : goal.returns-clause-stands
 returns-clause-stands c =
     rw (← c.self.view_is) (λ b E h.
     call_stands b E (hub_of c.self.inside) (after c) (Forget c.args.room.now)
-    (forgetting c.begin_anew.result) h (step c))
+    (forgetting c.forget.result) h (step c))
 
 pub returns-clause-no_memory : goal.returns-clause-no_memory
 returns-clause-no_memory c = λ e.
@@ -59,4 +59,4 @@ returns-clause-no_memory c = λ e.
     rw (← c.self.view_is) (fault_is (hub_of c.self.inside) c.args.room.now c.in-Some.index (
       w.name,
       g,
-    ) (at c) w.was ∙ c.begin_anew.ensures.no_memory e)
+    ) (at c) w.was ∙ c.forget.ensures.no_memory e)
