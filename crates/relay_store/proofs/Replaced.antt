@@ -1,4 +1,4 @@
--- What is kept after a change is the same without those that it replaces.
+-- The law of rows that go: after a change the same is kept without those that it replaces.
 use Rattle.std.proofs.Common.{◌≡◌, ◌∙◌, ◌≤◌, ℕ, Bool, true, false, not, max, bytes_eq, nat_eq}
 use Rattle.std.proofs.Common.{nat_le, List, [], ◌∷◌, ◌++◌, map, filter, ap, sym, subst, refl}
 use Rattle.std.proofs.Common.{append-nil, arith, if◌then◌else◌, true≢false, inl, inr}
@@ -253,7 +253,8 @@ module _ (rest : Kept → Kept) (steady : (kept : Kept) (change : Change (List �
           else filter (λ x. not (gone x)) rows)))
           ≡ rest (committed (changed b (text r)) (map text rows))
       go true more all = more a (changed b (text r)) (same ∙ sym (lost r all.0 b)) all.1
-      go false more all = more (changed a (text r)) (changed b (text r)) (next a b (text r) same) all
+      go false more all =
+          more (changed a (text r)) (changed b (text r)) (next a b (text r) same) all
 
 -- what is kept after a change is the same without rows that it replaces
 pub same_without : {T : Type 0} (text : T → Change (List ℕ)) (gone : T → Bool)

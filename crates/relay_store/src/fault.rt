@@ -34,6 +34,9 @@ pub enum StoreFault {
     /// A number or a text does not fit in the store.
     #[error("a number or a text is too big for the store")]
     TooBig,
+    /// It keeps more rooms than the relay may have.
+    #[error("the store has more rooms than may be")]
+    TooManyRooms,
     #[error("out of memory")]
     NoMemory,
 }

@@ -28,7 +28,8 @@ change_back id (DropWill session) = refl
 -- the row of one more change
 wrote_row : (old new : View) (id : ℕ) (change : Change (List ℕ))
     → AreBelow id (old.trees CHANGE_TREE)
-    → SetsTree old new CHANGE_TREE (put_row (row_of id change)) → Wrote old new (id + 1) (change ∷ [])
+    → SetsTree old new CHANGE_TREE (put_row (row_of id change))
+    → Wrote old new (id + 1) (change ∷ [])
 wrote_row old new id change below sets =
     let row = row_of id change in
     let rows = old.trees CHANGE_TREE in
@@ -50,7 +51,8 @@ wrote_row old new id change below sets =
 -- the row of one more change, in place of those that it replaces
 pub wrote_one : (old mid new : View) (id : ℕ) (change : Change (List ℕ))
     → AreBelow id (old.trees CHANGE_TREE) → Spares old mid change
-    → SetsTree mid new CHANGE_TREE (put_row (row_of id change)) → Wrote old new (id + 1) (change ∷ [])
+    → SetsTree mid new CHANGE_TREE (put_row (row_of id change))
+    → Wrote old new (id + 1) (change ∷ [])
 wrote_one old mid new id change below spares sets =
     let wrote = wrote_row mid new id change (spares.below id below) sets in
     record {

@@ -11,8 +11,8 @@ use crate::opening::{Opened, adopt, statement_fault};
 use relay_store::StoreFault;
 use sqlite::{Connection, FileFrom, FileStore, Start};
 
-/// Opens the file at a path as a store, or makes it, with the epoch `new_epoch`. Its log lies beside
-/// it (`PATH-wal`), and the two belong together. A commit is synced before it returns.
+/// Opens the file at a path as a store, or makes it, with the epoch `new_epoch`. Its log lies
+/// beside it (`PATH-wal`), and the two belong together. A commit is synced before it returns.
 ///
 /// A file that is refused stays as it is, but an empty log may be left beside it. `CannotOpen` if
 /// there is no such folder, or the path names no plain file of one name, or the system refuses it.

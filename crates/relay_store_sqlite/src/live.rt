@@ -3,8 +3,8 @@ use relay_store::Change;
 use std::alloc::{AllocError, Global};
 use std::collections::BTreeMap;
 
-/// The rowids of the rows of each room, of each session's will and of the floor. They only say where
-/// to look: a row is removed once it was read, so no clause rests on them.
+/// The rowids of the rows of each room, of each session's will and of the floor. They only say
+/// where to look: a row is removed once it was read, so no clause rests on them.
 #[derive(Drop)]
 pub(crate) struct LiveRows {
     alloc: Global,

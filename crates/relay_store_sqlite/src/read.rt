@@ -127,8 +127,8 @@ fn change_with(
     Err(StoreFault::Damaged)
 }
 
-/// Adds the change of a row, notes its rowid, and returns the rowid after its own. `Damaged` if that is not above
-/// all rowids so far, which are below `next`.
+/// Adds the change of a row, notes its rowid, and returns the rowid after its own. `Damaged` if
+/// that is not above all rowids so far, which are below `next`.
 fn add_row(
     alloc: Global,
     row: &Row,
@@ -151,7 +151,8 @@ fn add_row(
     Ok(id + 1)
 }
 
-/// Reads all changes, in order, by way of a row, and notes their rowids. Returns also a rowid above all of theirs.
+/// Reads all changes, in order, by way of a row, and notes their rowids. Returns also a rowid above
+/// all of theirs.
 pub(crate) fn read_all<S: Store>(
     alloc: Global,
     store: &mut S,

@@ -28,8 +28,8 @@ impl<S: Alter + Drop> SqliteStore<S> {
     ghost use Rattle.relay_store_sqlite.specs.declared.write.TheConstants.{META_TREE, CHANGE_TREE};
 
     /// Takes the trees of a database that has the tables of a store, and reads its epoch and its
-    /// changes. What was not committed is undone. `NotAStore` if it has other tables, `Damaged` if a row stands
-    /// for no change, and `Closed` if an earlier failure shut the trees.
+    /// changes. What was not committed is undone. `NotAStore` if it has other tables, `Damaged` if
+    /// a row stands for no change, and `Closed` if an earlier failure shut the trees.
     pub(crate) fn over(
         alloc: Global,
         mut store: S,
