@@ -82,7 +82,10 @@ def line_of(played):
 def main(words):
     cases = CASES
     if words[:1] == ["--case"]:
-        cases = [case for case in CASES if case.name == words[1]]
+        name = words[1] if len(words) > 1 else ""
+        cases = [case for case in CASES if case.name == name]
+        if name and not cases:
+            sys.exit(f"no case has the name {name}")
         words = words[2:]
     if not words or not cases:
         sys.exit("usage: tests/conformance/run [--case NAME] CLIENT_COMMAND")

@@ -5,6 +5,7 @@ No follower is ever off its view, and at the end each name holds what it should.
 
 import collections
 import random
+import signal
 import subprocess
 import threading
 
@@ -122,6 +123,8 @@ def fault_of(path, job):
         try:
             soak.play()
         except (Wrong, OSError) as wrong:
+            if ran.poll() == -signal.SIGKILL:
+                return f"no end within {PATIENCE} seconds, as on a busy machine"
             ran.kill()
             return str(wrong)
         finally:

@@ -5,8 +5,14 @@ import asyncio
 from contextlib import asynccontextmanager
 from typing import Any, AsyncContextManager, AsyncIterator, Callable, Dict, Protocol, Union
 
-import websockets
-import websockets.exceptions
+try:
+    import websockets
+    import websockets.exceptions
+except ImportError as missing:
+    raise ImportError(
+        "relay_client needs the package websockets: pip install ./clients/python in a virtual"
+        " environment, or Debian's python3-websockets"
+    ) from missing
 
 from .faults import HandshakeFailed
 
