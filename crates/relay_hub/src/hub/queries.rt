@@ -286,7 +286,8 @@ impl Hub {
     /// hub.receive(alloc, session, edit).ok()?;
     /// let whole = View::read(alloc, &read(alloc, r#"[""]"#).ok()?).ok()?;
     /// let update = hub.update_since(alloc, 0, Some(0), &whole).ok()??;
-    /// assert!(rt; !update.is_snapshot && update.revision == 1);
+    /// // A patch would weigh more than this document.
+    /// assert!(rt; update.is_snapshot && update.revision == 1);
     /// assert!(rt; hub.update_since(alloc, 0, Some(1), &whole).ok()?.is_none());
     /// ```
     #[tactic(auto, using(crate::proofs::Representation::room_at, crate::proofs::Representation::no_room_at))]
