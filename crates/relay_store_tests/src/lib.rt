@@ -3,5 +3,3 @@
 
 #[cfg(test)]
 mod changes;
-#[cfg(test)]
-mod files;
