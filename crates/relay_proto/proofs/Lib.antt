@@ -6,6 +6,7 @@ pub mod Slots
 pub mod Patches
 pub mod Messages
 pub mod Written
+pub mod Wills
 pub mod Writable
 pub mod Counts
 pub mod Rows

@@ -1,9 +1,10 @@
 -- The document of a message reads as the message if its members have their forms.
-use Rattle.std.proofs.Common.{◌≡◌, ℕ, ◌<◌, ◌^◌, List, length, true, nat_le, Option, Some, None}
-use Rattle.std.proofs.Common.{refl, arith}
+use Rattle.std.proofs.Common.{◌≡◌, ℕ, ◌<◌, ◌≤◌, ◌^◌, List, length, true, nat_le, Option, Some}
+use Rattle.std.proofs.Common.{None, refl, arith}
 use Rattle.std.proofs.lemmas.Bool.Decides.{nat_tests}
 use Rattle.relay_tree.specs.Count.{count_of, count_most}
 use Rattle.relay_tree.specs.Document.{Document}
+use Rattle.relay_patch.specs.declared.limits.TheConstants.PatchLimits.{RELAYED}
 use Rattle.relay_patch.specs.declared.op.Op.{Op}
 use Rattle.relay_proto.specs.Message.{count, count_or_null, reply_document, patch_message}
 use Rattle.relay_proto.specs.Message.{snapshot_message}
@@ -49,7 +50,9 @@ reply_back (reply.Unwatched id) h = rw (count_back id h) refl
 
 pub patch_message_back : (rev : ℕ) (ops : List Op) → HasForms (message.Patch rev ops)
     → length ops < 2 ^ 64 → message_of (patch_message rev ops) ≡ Some (message.Patch rev ops)
-patch_message_back rev ops h few = rw (count_back rev h.0, patch_back ops h.1 few) refl
+patch_message_back rev ops h few =
+    let within : length ops ≤ RELAYED.ops = omega (arith, few) in
+    rw (count_back rev h.0, patch_back RELAYED.ops RELAYED.tokens ops h.1 within) refl
 
 pub snapshot_back : (rev : ℕ) (view : Document) → HasForms (message.Snapshot rev view)
     → message_of (snapshot_message rev view) ≡ Some (message.Snapshot rev view)

@@ -1,5 +1,5 @@
 -- The text of a document reads back as the document if its numbers are written as numbers.
-use Rattle.std.proofs.Common.{◌≡◌, ◌≤◌, Some, sym, ap, ◌∙◌}
+use Rattle.std.proofs.Common.{◌≡◌, ◌≤◌, Some, Result, Ok, Err, IfOk, sym, ap, ◌∙◌}
 use Rattle.json.specs.Lex.{tokens}
 use Rattle.json.specs.Tree.{HasNumbers}
 use Rattle.json.proofs.Printed.Tokens.{tokens-print}
@@ -22,3 +22,9 @@ text_reads d r shallow =
     ap tokens (sym (print-tokens_of d))
     ∙ tokens-print (tokens_of d) (ArePrintable-json_tokens (outline (data_of d)) r.numbers) in
     text_back (text_of d) d printed r.back shallow
+
+-- what two clauses say of a result together
+pub if_both : {A E : Type 0} {P Q S : A → Type 0} (r : Result A E) → IfOk r P → IfOk r Q
+    → ((a : A) → P a → Q a → S a) → IfOk r S
+if_both (Ok a) p q f = f a p q
+if_both (Err e) p q f = tt

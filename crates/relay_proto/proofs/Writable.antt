@@ -45,7 +45,7 @@ mutual
 -- Patches.
 
 short_paths : (m : ℕ) (ops : List Op) → AllByRecursion (OpFits RELAYED.tokens m) ops
-    → AllByRecursion HasShortPaths ops
+    → AllByRecursion (HasShortPaths RELAYED.tokens) ops
 short_paths m [] h = tt
 short_paths m (Add path v ∷ ops) h = (h.0.0, short_paths m ops h.1)
 short_paths m (Remove path ∷ ops) h = (h.0, short_paths m ops h.1)

@@ -30,7 +30,7 @@ use Rattle.relay_proto.proofs.Texts.{Reads, text_reads}
 
 -- Members.
 
-count_reads : (n : ℕ) → IsCount n → Reads (count n)
+pub count_reads : (n : ℕ) → IsCount n → Reads (count n)
 count_reads n h =
     let fits : n < 2 ^ 64 = omega (arith, h) in
     let small : nat_lt n (2 ^ 63) ≡ true = grind (arith, nat_tests, h) in

@@ -64,3 +64,9 @@ abbrev pub message_document : Message → Document
 message_document (message.Reply r) = reply_document r
 message_document (message.Patch rev ops) = patch_message rev ops
 message_document (message.Snapshot rev view) = snapshot_message rev view
+
+-- a request that leaves a will: a patch that is done when the session has ended
+abbrev pub will_request : List Op → Document
+will_request ops =
+    object (member (codes "do") (text (codes "will"))
+    (member (codes "id") (count 1) (member (codes "patch") (patch_document ops) no_members)))

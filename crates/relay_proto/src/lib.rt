@@ -15,6 +15,7 @@ mod reply;
 mod request;
 mod text;
 mod updates;
+mod will;
 mod word;
 
 pub use message::Message;
@@ -24,4 +25,5 @@ pub use refusal::{Refusal, RequestFault};
 pub use reply::{Reply, ResumeOutcome};
 pub use request::Request;
 pub use updates::{patch_text, shown_text, snapshot_text};
+pub use will::will_text;
 pub use word::Word;

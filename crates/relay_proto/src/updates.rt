@@ -102,9 +102,9 @@ pub fn shown_text(
     end_message(out)
 }
 
-/// About as many bytes as the text of a patch message has, so that it seldom grows: what the
-/// operations weigh, and their words.
-fn likely_length(patch: &Patch) -> usize
+/// About as many bytes as the text of a message with this patch has, so that it seldom grows: what
+/// the operations weigh, and their words.
+pub(crate) fn likely_length(patch: &Patch) -> usize
     ensures { result ≤ OPERATION_BYTES * length patch.now + LIKELY_BYTES + MESSAGE_BYTES }
 {
     let carried = match patch.pay(Budget::Left(LIKELY_BYTES)) {
@@ -147,7 +147,7 @@ fn begin_snapshot(alloc: Global, rev: u64) -> Result<Writer, AllocError>
 }
 
 /// Closes a message and returns its text.
-fn end_message(mut out: Writer) -> Result<String, AllocError>
+pub(crate) fn end_message(mut out: Writer) -> Result<String, AllocError>
     requires { out.before ≡ [] }
     ensures text { IfOk result (λ text. string_bytes text ≡ print (out.tokens ++ end_object ∷ [])) }
     ensures reads_back { IfOk result

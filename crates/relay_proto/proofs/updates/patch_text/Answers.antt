@@ -1,18 +1,14 @@
 use Rattle.std.proofs.Common.{◌≡◌, ◌<◌, ◌^◌, [], ◌∷◌, ◌++◌, length, string_bytes, codes, decimal}
-use Rattle.std.proofs.Common.{Result, Ok, Err, IfOk, ap, ◌∙◌, arith, rules}
+use Rattle.std.proofs.Common.{ap, ◌∙◌, arith, rules}
 use Rattle.json.specs.Print.{print}
 use Rattle.json.specs.Token.{end_object, key, number}
 use Rattle.relay_tree.specs.Text.{text_of, tokens_of}
 use Rattle.relay_tree.proofs.Texts.{if_ok, print-tokens_of}
 use Rattle.relay_proto.specs.Message.{patch_message}
+use Rattle.relay_proto.proofs.Texts.{if_both}
 use Rattle.relay_proto.proofs.Views.{patch_written}
 use Rattle.relay_proto.proofs.Written.{patch_text_back, ops_few}
 use Rattle.relay_proto.proofs.updates.patch_text.Goals as goal
-
-if_both : {A E : Type 0} {P Q S : A → Type 0} (r : Result A E) → IfOk r P → IfOk r Q
-    → ((a : A) → P a → Q a → S a) → IfOk r S
-if_both (Ok a) p q f = f a p q
-if_both (Err e) p q f = tt
 
 written : (c : goal.After-end_message)
     → c.u64.new.self.tokens ++ end_object ∷ []
