@@ -3,7 +3,6 @@ use Rattle.std.proofs.Common.{◌≡◌, ℕ, zero, suc, ◌+◌, ◌≤◌, ◌
 use Rattle.std.proofs.Common.{true, false, List, [], ◌∷◌, length, Option, Some, None, Result, Ok}
 use Rattle.std.proofs.Common.{Err, refl, sym, ◌∙◌, ap, subst, arith, if◌then◌else◌}
 use Rattle.std.specs.Option.{option_map_or}
-use Rattle.relay_patch.specs.declared.op.Op.{Op}
 use Rattle.relay_pointer.specs.Weight.{path_weight}
 use Rattle.relay_proto.proofs.Counts.{IsRefusal, request_counts, refusal_counts}
 use Rattle.relay_proto.specs.Request.{request_of_text}
@@ -24,7 +23,7 @@ use Rattle.relay_proto.specs.declared.word.Word.TheVariants as word
 use Rattle.relay_hub.specs.Refusal.{refusal}
 use Rattle.relay_hub.specs.Admitted.{may_edit, permitted, unpaid_slot, unless_unpaid, affordable}
 use Rattle.relay_hub.specs.Admitted.{admitted}
-use Rattle.relay_hub.specs.Log.{Watching, will_after, requested, asked}
+use Rattle.relay_hub.specs.Log.{Watching, Stay, stay_after, requested, asked}
 
 -- A request that is admitted is permitted, and was sent as it is.
 
@@ -121,21 +120,21 @@ refused_adds budget access ds (Ok (Resume id e rev v)) why h = refl
 refused_adds budget access ds (Ok (Unwatch id)) why h = refl
 refused_adds budget access ds (Err r) why h = refl
 
-pub refused_wills : (budget : Budget) (access : Access) (was : List Op)
+pub refused_wills : (budget : Budget) (access : Access) (was : Stay)
     (r : Result Request Refusal) (why : Refusal)
-    → admitted budget access r ≡ Err why → will_after was (permitted access r) ≡ was
+    → admitted budget access r ≡ Err why → stay_after was (permitted access r) ≡ was
 refused_wills budget access was (Ok (Will id patch)) why h = go (may_edit access) h
   where
     go : (b : Bool) → affordable budget (if b then Ok (Will id patch)
         else Err (refusal id word.ReadOnly None)) ≡ Err why
-        → will_after was (if b then Ok (Will id patch) else Err (refusal id word.ReadOnly None))
+        → stay_after was (if b then Ok (Will id patch) else Err (refusal id word.ReadOnly None))
         ≡ was
     go true h = absurd (cc h)
     go false h = refl
 refused_wills budget access was (Ok (Edit id base patch)) why h = edit_wills (may_edit access)
   where
     edit_wills : (b : Bool)
-        → will_after was (if b then Ok (Edit id base patch)
+        → stay_after was (if b then Ok (Edit id base patch)
         else Err (refusal id word.ReadOnly None)) ≡ was
     edit_wills true = refl
     edit_wills false = refl

@@ -45,7 +45,8 @@ module _ (b : HubConfig) (E : Log) (old : State) (w : Will) (wills : List Will) 
   was = stands.rooms w.room_index name g there
 
   abbrev bequest : Bequest
-  bequest = record { room = name; patch = w.patch }
+  bequest =
+      record { session = w.session; number = w.number; room = name; patch = w.patch }
 
   oldest : left E ≡ bequest ∷ map (named_will old.rooms) wills
   oldest = sym stands.wills ∙ (ap (map (named_will old.rooms)) is ∙ rw there refl)

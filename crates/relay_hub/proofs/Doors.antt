@@ -259,7 +259,7 @@ module _ (b : HubConfig) (E : Log) (old new : State) (name : List ℕ) (access :
             enters.7.1.found t,
             is.0,
           )
-              (ap (λ k. Some (stay k access [])) (sym same), welcome, (refl, refl, refl))
+              (ap (λ k. Some (stay k access [] 0)) (sym same), welcome, (refl, refl, refl))
           | inr apart ↦
               let o = others_home t apart.1 in
               rw (o.2, enters.5)
@@ -609,12 +609,12 @@ module _ (b : HubConfig) (E : Log) (old new : State) (name : List ℕ) (access :
 
 pub close_stands : (b : HubConfig) (E : Log) (old new : State) (s : ℕ) (mine : Home old s)
     → StandsFor b E old
-    → Closes s mine.room.index mine.room.name mine.room.room_sessions mine.session.will old new
+    → Closes s mine.room.index mine.room.name mine.room.room_sessions mine.session old new
     → StandsFor b (entry (Close s) Closed ∷ E) new
 close_stands b E old new s mine stands step =
     let e = entry (Close s) Closed in
     let r = mine.room in
-    let will = mine.session.will in
+    let x = mine.session in
     let h = step.left in
     let at_home = here b E old s mine stands in
     let there : slice_get (slice_set old.rooms r.index (r.name, h)) r.index ≡ Some (r.name, h) =
@@ -655,14 +655,15 @@ close_stands b E old new s mine stands step =
         step.wills,
         at_home.0,
         map-append (named_will (slice_set old.rooms r.index (r.name, h))) old.wills
-            (left_of r.index will),
+            (left_of s x.will_number r.index x.will),
         same_wills old.rooms r.index r.name r.room_sessions h old.wills r.there stands.housed,
         stands.wills,
-        named_left (slice_set old.rooms r.index (r.name, h)) r.index r.name h will there,
+        named_left (slice_set old.rooms r.index (r.name, h)) s x.will_number r.index r.name h
+            x.will there,
       ) refl;
       housed =
           rw (step.rooms, step.wills)
-          (have_left (slice_set old.rooms r.index (r.name, h)) old.wills r.index will
-          (omega (arith, within, length-set old.rooms r.index (r.name, h)))
+          (have_left (slice_set old.rooms r.index (r.name, h)) old.wills s x.will_number r.index
+          x.will (omega (arith, within, length-set old.rooms r.index (r.name, h)))
           (have_set old.rooms r.index (r.name, h) old.wills stands.housed));
     }

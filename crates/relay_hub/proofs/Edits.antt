@@ -11,7 +11,7 @@ use Rattle.relay_room.specs.declared.catch_up.CatchUp.{CatchUp}
 use Rattle.relay_tree.specs.Document.{Document}
 use Rattle.relay_hub.specs.Log.{Watching, Stay, present_of, next_document}
 use Rattle.relay_hub.specs.Session.{Session}
-use Rattle.relay_hub.specs.Stands.{RoomStands, OutboxStands, WatchStands, SessionStands}
+use Rattle.relay_hub.specs.Stands.{RoomStands, OutboxStands, WatchStands, SessionStands, stay_of}
 use Rattle.relay_hub.specs.Step.{NotifiedView, NotifiedAs}
 use Rattle.relay_hub.specs.declared.config.HubConfig.{HubConfig}
 use Rattle.relay_hub.proofs.Follow.{folded_follows, notified_follows}
@@ -36,17 +36,17 @@ module _ {from : ℕ} (most : HubConfig) (k : ℕ) (ds : List Document) (d : Doc
   notified_view : (update : CatchUp) (short : Bool) (x y : Session) (w : Watching)
       → NotifiedView room.document next update w.view short x y → OutboxStands k x
       → WatchStands ds room x (Some w)
-      → ((y.access ≡ x.access) × (y.will ≡ x.will)) × OutboxStands k y
+      → ((name : List ℕ) → stay_of name y ≡ stay_of name x) × OutboxStands k y
       × WatchStands (ds ++ d ∷ []) next y (Some w)
   notified_view update true x y w notified contents watch =
       rw notified.1 (
-        (refl, refl),
+        λ name. refl,
         outbox_folded k x x.view contents,
         (watch.0, folded_follows most ds d w room next was is x.outbox watch.1),
       )
   notified_view update false x y w notified contents watch =
       rw notified.0 (
-        (refl, refl),
+        λ name. refl,
         outbox_notified k (revision next) update x is.is.history.last notified.2 contents,
         (
           watch.0,
@@ -59,13 +59,13 @@ module _ {from : ℕ} (most : HubConfig) (k : ℕ) (ds : List Document) (d : Doc
       (w : Option Watching) → x.view ≡ v
       → NotifiedAs room.document next updates v short x y
       → OutboxStands k x → WatchStands ds room x w
-      → ((y.access ≡ x.access) × (y.will ≡ x.will)) × OutboxStands k y
+      → ((name : List ℕ) → stay_of name y ≡ stay_of name x) × OutboxStands k y
       × WatchStands (ds ++ d ∷ []) next y w
   notified_stands updates (Some v) short x y (Some w) e notified contents watch =
       let same : v ≡ w.view = cc in
       notified_view (updates w.view) short x y w (rw same at notified) contents watch
   notified_stands updates None short x y None e notified contents watch =
-      rw notified.0 ((refl, refl), contents, watch)
+      rw notified.0 (λ name. refl, contents, watch)
   notified_stands updates _ short x y _ e notified contents watch = absurd (cc (e, watch.0))
 
   pub notified_session : (before later : List ℕ
@@ -77,6 +77,6 @@ module _ {from : ℕ} (most : HubConfig) (k : ℕ) (ds : List Document) (d : Doc
       let s =
       notified_stands notified.0 x.view notified.1 x y w refl notified.2 h.1
       (rw had at h.2) in
-      (rw (s.0.0, s.0.1) h.0, s.1, rw has s.2)
+      (h.0 ∙ ap Some (sym (s.0 name)), s.1, rw has s.2)
   notified_session before later name None None there w had has notified h = h
   notified_session before later name _ _ there w had has notified h = absurd notified.2

@@ -4,10 +4,10 @@ use Rattle.std.proofs.Common.{◌∙◌, ap, subst, inl, inr, slice_get, slice_s
 use Rattle.std.proofs.lemmas.Bool.Decides.{eqb_tells}
 use Rattle.relay_room.specs.Room.{State as Room}
 use Rattle.relay_tree.specs.Document.{Document}
-use Rattle.relay_hub.specs.Log.{Log, Entry, Watching, Stay, stay, home, is_opened, documents}
+use Rattle.relay_hub.specs.Log.{Log, Entry, Watching, Stay, home, is_opened, documents}
 use Rattle.relay_hub.specs.Log.{beginning, watching, left, opened, open_count}
 use Rattle.relay_hub.specs.Session.{Session}
-use Rattle.relay_hub.specs.Stands.{RoomStands, OutboxStands, WatchStands, SessionStands}
+use Rattle.relay_hub.specs.Stands.{RoomStands, OutboxStands, WatchStands, SessionStands, stay_of}
 use Rattle.relay_hub.specs.Stands.{RoomSessionsStand, HomeStands, MayBegin, named_will, StandsFor}
 use Rattle.relay_hub.specs.State.{RoomSessions, State, HaveRooms, RoomOf, Home, index_of}
 use Rattle.relay_hub.specs.State.{index_named, session_in}
@@ -34,7 +34,7 @@ session_stands b E hub t r h at = rw (at, r.there) at (h.sessions t)
 
 -- a session that is open
 pub here : (b : HubConfig) (E : Log) (hub : State) (s : ℕ) (mine : Home hub s) → StandsFor b E hub
-    → (home E s ≡ Some (stay mine.room.name mine.session.access mine.session.will))
+    → (home E s ≡ Some (stay_of mine.room.name mine.session))
     × OutboxStands b.max_waiting_patches mine.session
     × WatchStands (documents E mine.room.name) mine.room.room_sessions.room mine.session
     (watching b E s)
@@ -243,7 +243,7 @@ module _ (b : HubConfig) (E : Log) (e : Entry) (old : State) (r : RoomOf old) (h
   pub session_changes : left (e ∷ E) ≡ left E → beginning (e ∷ E) r.name ≡ beginning E r.name
       → Quiet E e → ((other : List ℕ) → documents (e ∷ E) other ≡ documents E other)
       → (s : ℕ) (y : Session) → index_of old s ≡ Some r.index
-      → home (e ∷ E) s ≡ Some (stay r.name y.access y.will)
+      → home (e ∷ E) s ≡ Some (stay_of r.name y)
       → ChangesOnly s (Some y) r.room_sessions h
       → ((t : ℕ) → s ≢ t → (home (e ∷ E) t ≡ home E t) × (watching b (e ∷ E) t ≡ watching b E t))
       → OutboxStands b.max_waiting_patches y

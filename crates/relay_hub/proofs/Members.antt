@@ -594,10 +594,10 @@ otherwise : {X : Type 0} (b : Bool) (u v w : X) → b ≡ false → w ≡ (if b 
 otherwise true u v w other is = absurd (cc other)
 otherwise false u v w other is = is
 
-closes_is_hub : (old new : State) (s : ℕ) (r : RoomOf old) (will : List Op) → IsHub old
-    → index_of old s ≡ Some r.index → Closes s r.index r.name r.room_sessions will old new
+closes_is_hub : (old new : State) (s : ℕ) (r : RoomOf old) (x : Session) → IsHub old
+    → index_of old s ≡ Some r.index → Closes s r.index r.name r.room_sessions x old new
     → IsHub new
-closes_is_hub old new s r will h home step = record {
+closes_is_hub old new s r x h home step = record {
   config = rw step.config h.config;
   floor = rw step.floor h.floor;
   homes = λ t p t_at.
@@ -631,25 +631,25 @@ closes_is_hub old new s r will h home step = record {
       → (if b then None else index_of old t) ≡ Some p) s t
       (λ e. let same : Some p ≡ Some r.index = sym e ∙ home in
       absurd (other cc)) (λ apart e. e) is))
-      (λ t x is. rw (step.home t) (by_number (λ t b.
-      (if b then None else session_in r.room_sessions.sessions t) ≡ Some x
+      (λ t y is. rw (step.home t) (by_number (λ t b.
+      (if b then None else session_in r.room_sessions.sessions t) ≡ Some y
       → (if b then None else index_of old t) ≡ Some r.index) s t
       (λ e. absurd (cc e)) (λ apart e.
-      h.members r.index r.name r.room_sessions r.there t x e) (sym (step.leaves.1.found t)
+      h.members r.index r.name r.room_sessions r.there t y e) (sym (step.leaves.1.found t)
       ∙ is)));
   few =
       rw (step.config, step.wills) (omega (
         arith,
         h.few,
         step.count,
-        few_left r.index will,
-        length-append old.wills (left_of r.index will),
+        few_left s x.will_number r.index x.will,
+        length-append old.wills (left_of s x.will_number r.index x.will),
       ));
   wills =
       let within = slice_get_within old.rooms r.index (r.name, r.room_sessions) r.there in
       rw (step.rooms, step.wills)
-      (have_left (slice_set old.rooms r.index (r.name, step.left)) old.wills r.index will
-      (omega (arith, within, length-set old.rooms r.index (r.name, step.left)))
+      (have_left (slice_set old.rooms r.index (r.name, step.left)) old.wills s x.will_number
+      r.index x.will (omega (arith, within, length-set old.rooms r.index (r.name, step.left)))
       (have_set old.rooms r.index (r.name, step.left) old.wills h.wills));
 }
 
@@ -658,7 +658,7 @@ close_in_is_hub : (old new : State) (s : ℕ) (r : RoomOf old) (o : Option Sessi
     → ClosesIn s r.index r.name r.room_sessions o old answer new → IsHub new
 close_in_is_hub old new s r None NoSession h home step = rw step h
 close_in_is_hub old new s r (Some x) Closed h home step =
-    closes_is_hub old new s r x.will h home step
+    closes_is_hub old new s r x h home step
 close_in_is_hub old new s r o answer h home step = absurd step
 
 close_in_room_is_hub : (old new : State) (s index : ℕ) (o : Option (List ℕ

@@ -241,7 +241,7 @@ module _ (h : Inside) (s i : ℕ) (old new : RoomSessions) (home : index_of (hub
       → session_in old.sessions s ≡ Some x → ChangesOnly s None old new
       → ((t : ℕ) → lookup (nat_eq t) homes ≡ (if s == t then None else index_of (hub_of h) t))
       → length homes + 1 ≡ length h.homes.entries
-      → wills ≡ h.wills.items ++ left_of i x.will
+      → wills ≡ h.wills.items ++ left_of s x.will_number i x.will
       → Step (hub_of h) (Close s) answer.Closed (hub_leaving h i new homes wills)
   closes homes wills x is leaves home_after count adds =
       let w = written h.rooms.entries i old new there in

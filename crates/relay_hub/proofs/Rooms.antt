@@ -9,14 +9,13 @@ use Rattle.std.proofs.lemmas.List.{append-nil, length-replicate}
 use Rattle.std.proofs.lemmas.List.Quantifiers.{position-Some}
 use Rattle.std.proofs.lemmas.Option.{get_or_from_slice_get}
 use Rattle.std.proofs.lemmas.Slice.Eq.{bytes_eq-Decides}
-use Rattle.relay_patch.specs.declared.op.Op.{Op}
 use Rattle.relay_proto.specs.Request.{request_of_text}
 use Rattle.relay_access.specs.declared.access.Access.{Access}
 use Rattle.relay_room.specs.Room.{revision}
 use Rattle.relay_tree.specs.Document.{Document, null}
 use Rattle.relay_limits.specs.declared.TheConstants.{MAX_COUNT}
 use Rattle.relay_hub.specs.Admitted.{permitted}
-use Rattle.relay_hub.specs.Log.{Log, Stay, Bequest, stay, entry, home, left, document_left}
+use Rattle.relay_hub.specs.Log.{Log, Stay, Bequest, entry, home, left, document_left}
 use Rattle.relay_hub.specs.Log.{documents, documents_after, document_added, extended, requested}
 use Rattle.relay_hub.specs.Log.{reaching, renewed, beginning, beginning_after}
 use Rattle.relay_hub.specs.Stands.{MayBegin}
@@ -234,39 +233,37 @@ may_begin_again floor g ds made first over = go (revision g.room) made over
 -- Documents.
 
 -- a text that asks for no edit, or for a refused one, adds no document anywhere
-pub none_added : (E : Log) (s short : ℕ) (text name : List ℕ) (access : Access) (will : List Op)
-    → home E s ≡ Some (stay name access will)
-    → requested (documents E name) (permitted access (request_of_text text)) ≡ None
+pub none_added : (E : Log) (s short : ℕ) (text : List ℕ) (p : Stay) → home E s ≡ Some p
+    → requested (documents E p.room) (permitted p.access (request_of_text text)) ≡ None
     → (other : List ℕ) → documents (entry (Receive s text) (Heard (Answered short)) ∷ E) other
     ≡ documents E other
-none_added E s short text name access will at none other =
+none_added E s short text p at none other =
     rw at (by_name (λ b. extended (documents E other) (if b
-    then requested (documents E other) (permitted access (request_of_text text))
-    else None) ≡ documents E other) name other
+    then requested (documents E other) (permitted p.access (request_of_text text))
+    else None) ≡ documents E other) p.room other
     (λ same.
     subst (λ n.
     extended (documents E n)
-    (requested (documents E n) (permitted access (request_of_text text)))
+    (requested (documents E n) (permitted p.access (request_of_text text)))
     ≡ documents E n) same (rw none refl))
     (λ apart. refl))
 
-pub one_added : (E : Log) (s short : ℕ) (text name : List ℕ) (access : Access) (will : List Op)
-    (d : Document) → home E s ≡ Some (stay name access will)
-    → requested (documents E name) (permitted access (request_of_text text)) ≡ Some d
-    → documents (entry (Receive s text) (Heard (Answered short)) ∷ E) name
-    ≡ documents E name ++ d ∷ []
-one_added E s short text name access will d at adds =
-    let same : bytes_eq name name ≡ true = (bytes_eq-Decides name name).1 refl in
+pub one_added : (E : Log) (s short : ℕ) (text : List ℕ) (p : Stay) (d : Document)
+    → home E s ≡ Some p
+    → requested (documents E p.room) (permitted p.access (request_of_text text)) ≡ Some d
+    → documents (entry (Receive s text) (Heard (Answered short)) ∷ E) p.room
+    ≡ documents E p.room ++ d ∷ []
+one_added E s short text p d at adds =
+    let same : bytes_eq p.room p.room ≡ true = (bytes_eq-Decides p.room p.room).1 refl in
     rw (at, same, adds) refl
 
-pub others_stay : (E : Log) (s short : ℕ) (text name : List ℕ) (access : Access) (will : List Op)
-    → home E s ≡ Some (stay name access will)
-    → (other : List ℕ) → other ≢ name
+pub others_stay : (E : Log) (s short : ℕ) (text : List ℕ) (p : Stay) → home E s ≡ Some p
+    → (other : List ℕ) → other ≢ p.room
     → documents (entry (Receive s text) (Heard (Answered short)) ∷ E) other ≡ documents E other
-others_stay E s short text name access will at other apart =
+others_stay E s short text p at other apart =
     rw at (by_name (λ b. extended (documents E other) (if b
-    then requested (documents E other) (permitted access (request_of_text text))
-    else None) ≡ documents E other) name other
+    then requested (documents E other) (permitted p.access (request_of_text text))
+    else None) ≡ documents E other) p.room other
     (λ same. absurd (apart (sym same)))
     (λ differ. refl))
 

@@ -34,13 +34,14 @@ use Rattle.relay_tree.specs.Document.{Document, null}
 use Rattle.relay_tree.specs.declared.budget.Budget.{Budget}
 use Rattle.relay_view.specs.View.{View, view}
 use Rattle.relay_hub.specs.Admitted.{permitted, affordable, admitted}
-use Rattle.relay_hub.specs.Log.{Log, Watching as Watched, stay, willed, will_after, begun, entry}
+use Rattle.relay_hub.specs.Log.{Log, Watching as Watched, stay_after, willed, begun, entry}
 use Rattle.relay_hub.specs.Log.{home, documents, beginning, requested, asked, asked_at_home}
 use Rattle.relay_hub.specs.Log.{watching}
 use Rattle.relay_hub.specs.Refusal.{refused, edit_refusal, future_refusal}
 use Rattle.relay_hub.specs.Session.{Session, session_with, with_will, replied, leaves_will, watches}
 use Rattle.relay_hub.specs.Session.{unwatches, resumes}
-use Rattle.relay_hub.specs.Stands.{RoomStands, OutboxStands, WatchStands, SessionStands, StandsFor}
+use Rattle.relay_hub.specs.Stands.{RoomStands, OutboxStands, WatchStands, SessionStands, stay_of}
+use Rattle.relay_hub.specs.Stands.{StandsFor}
 use Rattle.relay_hub.specs.State.{RoomSessions, State, Home, session_in}
 use Rattle.relay_hub.specs.Step.{ChangesOnly, EditServed, ResumeServed, with_room}
 use Rattle.relay_hub.specs.declared.config.HubConfig.{HubConfig}
@@ -136,11 +137,11 @@ outbox_resumed most rev id v Snapshot x i r fits h =
     (outbox_replied most x (Resumed id how.Snapshot) i h)
 
 -- a session that resumes may do what it might, and has its will
-resumes_same : (rev id : ℕ) (v : View) (up : CatchUp) (x : Session)
-    → ((resumes rev id v up x).access ≡ x.access) × ((resumes rev id v up x).will ≡ x.will)
-resumes_same rev id v Nothing x = (refl, refl)
-resumes_same rev id v (Patch ops) x = (refl, refl)
-resumes_same rev id v Snapshot x = (refl, refl)
+resumes_same : (name : List ℕ) (rev id : ℕ) (v : View) (up : CatchUp) (x : Session)
+    → stay_of name (resumes rev id v up x) ≡ stay_of name x
+resumes_same name rev id v Nothing x = refl
+resumes_same name rev id v (Patch ops) x = refl
+resumes_same name rev id v Snapshot x = refl
 
 -- A request of session s, which is open.
 
@@ -162,7 +163,7 @@ module _ (b : HubConfig) (E : Log) (old : State) (s : ℕ) (mine : Home old s) (
   was : RoomStands b (beginning E mine.room.name) ds g.room
   was = stands.rooms mine.room.index mine.room.name g mine.room.there
 
-  at_home : (home E s ≡ Some (stay mine.room.name x.access x.will))
+  at_home : (home E s ≡ Some (stay_of mine.room.name x))
       × OutboxStands b.max_waiting_patches x × WatchStands ds g.room x (watching b E s)
   at_home = here b E old s mine stands
 
@@ -171,33 +172,34 @@ module _ (b : HubConfig) (E : Log) (old : State) (s : ℕ) (mine : Home old s) (
   sent = request_of_text text
 
   -- a request that adds no document, and that changes the session alone
-  pub served : (y : Session) → y.access ≡ x.access
-      → y.will ≡ will_after x.will (permitted x.access sent)
+  pub served : (y : Session)
+      → stay_of mine.room.name y ≡ stay_after (stay_of mine.room.name x) (permitted x.access sent)
       → requested ds (permitted x.access sent) ≡ None → ChangesOnly s (Some y) g h
       → OutboxStands b.max_waiting_patches y
       → WatchStands ds g.room y (asked b.epoch ds (watching b E s) (affordable b.view_weight sent))
       → StandsFor b (entry (Receive s text) (Heard (Answered short)) ∷ E) next
-  served y may wills none changes contents watch =
+  served y stays none changes contents watch =
       let e = entry (Receive s text) (Heard (Answered short)) in
       let same : (s == s) ≡ true = grind (arith, nat_tests) in
       session_changes b E e old mine.room h stands
-      (others_stay E s short text mine.room.name x.access x.will at_home.0) (λ other apart.
+      (others_stay E s short text (stay_of mine.room.name x) at_home.0) (λ other apart.
       refl)
       refl refl (record { opened = refl; count = refl; rooms = λ name. refl })
-      (none_added E s short text mine.room.name x.access x.will at_home.0 none)
-      s y mine.at (rw (same, at_home.0, may, wills) refl) changes
+      (none_added E s short text (stay_of mine.room.name x) at_home.0 none)
+      s y mine.at (rw (same, at_home.0) (ap Some (sym stays))) changes
       (λ t apart. let other : (s == t) ≡ false = grind (arith, nat_tests, apart) in
       (rw other refl, rw other refl))
       contents
       (rw (same, at_home.0) watch)
 
-  pub served_reply : (why : Reply) → will_after x.will (permitted x.access sent) ≡ x.will
+  pub served_reply : (why : Reply)
+      → stay_after (stay_of mine.room.name x) (permitted x.access sent) ≡ stay_of mine.room.name x
       → requested ds (permitted x.access sent) ≡ None
       → asked b.epoch ds (watching b E s) (affordable b.view_weight sent) ≡ watching b E s
       → ChangesOnly s (Some (replied why x)) g h → HasCounts why
       → StandsFor b (entry (Receive s text) (Heard (Answered short)) ∷ E) next
-  served_reply why wills none same changes counts =
-      served (replied why x) refl (sym wills) none changes
+  served_reply why stays none same changes counts =
+      served (replied why x) (sym stays) none changes
       (outbox_replied b.max_waiting_patches x why counts at_home.1)
       (rw same (watch_replied ds g.room x why (watching b E s) at_home.2))
 
@@ -206,7 +208,8 @@ module _ (b : HubConfig) (E : Log) (old : State) (s : ℕ) (mine : Home old s) (
       → ChangesOnly s (Some (replied (refused why) x)) g h
       → StandsFor b (entry (Receive s text) (Heard (Answered short)) ∷ E) next
   served_refusal why read changes =
-      served_reply (refused why) (refused_wills b.view_weight x.access x.will sent why read)
+      served_reply (refused why)
+      (refused_wills b.view_weight x.access (stay_of mine.room.name x) sent why read)
       (refused_adds b.view_weight x.access ds sent why read)
       (refused_asks b.view_weight x.access b.epoch ds (watching b E s) sent why read) changes
       (refused_counts b.view_weight x.access text why read)
@@ -217,7 +220,7 @@ module _ (b : HubConfig) (E : Log) (old : State) (s : ℕ) (mine : Home old s) (
   served_watch id v read changes =
       let is = other_sent b.view_weight x.access sent (Watch id v) tt read in
       let count = (request_counts text (Watch id v) is.0).0 in
-      served (watches id v x) refl (rw is.0 refl) (rw is.0 refl) changes
+      served (watches id v x) (rw is.0 refl) (rw is.0 refl) changes
       (outbox_folded b.max_waiting_patches (replied (Watching id) x) (Some v)
       (outbox_replied b.max_waiting_patches x (Watching id) count at_home.1))
       (rw is.1 (watch_begun b ds g.room v was id x))
@@ -230,7 +233,7 @@ module _ (b : HubConfig) (E : Log) (old : State) (s : ℕ) (mine : Home old s) (
       let is = admitted_sent b.view_weight x.access sent (Will id patch) read in
       let count = (request_counts text (Will id patch) is.1).0 in
       let answered = replied (Willing id) x in
-      served (leaves_will id patch x) refl (rw is.0 refl) (rw is.0 refl) changes
+      served (leaves_will id patch x) (rw is.0 refl) (rw is.0 refl) changes
       (outbox_willing b.max_waiting_patches answered patch
       (outbox_replied b.max_waiting_patches x (Willing id) count at_home.1))
       (rw is.1 (watch_willing ds g.room answered patch (watching b E s)
@@ -242,7 +245,7 @@ module _ (b : HubConfig) (E : Log) (old : State) (s : ℕ) (mine : Home old s) (
   served_unwatch id read changes =
       let is = other_sent b.view_weight x.access sent (Unwatch id) tt read in
       let count = request_counts text (Unwatch id) is.0 in
-      served (unwatches id x) refl (rw is.0 refl) (rw is.0 refl) changes
+      served (unwatches id x) (rw is.0 refl) (rw is.0 refl) changes
       (outbox_cleared b.max_waiting_patches (replied (Unwatched id) x) None
       (outbox_replied b.max_waiting_patches x (Unwatched id) count at_home.1))
       (rw is.1 (refl, refl, refl))
@@ -253,7 +256,7 @@ module _ (b : HubConfig) (E : Log) (old : State) (s : ℕ) (mine : Home old s) (
       → ResumeServed present past id rev v s x g h → IsCount id
       → StandsFor b (entry (Receive s text) (Heard (Answered short)) ∷ E) next
   served_resume id e rev v false past read kept p q step i =
-      served (resumes (revision g.room) id v Snapshot x) refl (rw read refl) (rw read refl) step
+      served (resumes (revision g.room) id v Snapshot x) (rw read refl) (rw read refl) step
       (outbox_folded b.max_waiting_patches (replied (Resumed id how.Snapshot) x) (Some v)
       (outbox_replied b.max_waiting_patches x (Resumed id how.Snapshot) i at_home.1))
       (rw (kept, p) (refl, Follows-snapshot b ds (begun v nothing) g.room was tt))
@@ -271,8 +274,8 @@ module _ (b : HubConfig) (E : Log) (old : State) (s : ℕ) (mine : Home old s) (
       let within : rev < length ds = omega (arith, past, room.numbered) in
       let found = slice_get-get_or ds rev null within in
       let up = caught_up_within x.budget g.room rev v in
-      let same = resumes_same (revision g.room) id v up x in
-      served (resumes (revision g.room) id v up x) same.0 (rw read same.1) (rw read refl) step.2
+      let same = resumes_same mine.room.name (revision g.room) id v up x in
+      served (resumes (revision g.room) id v up x) (rw read same) (rw read refl) step.2
       (outbox_resumed b.max_waiting_patches (revision g.room) id v
       (caught_up_within x.budget g.room rev v) x i room.is.history.last step.1 at_home.1)
       (rw (kept, p, found) (watch_resumed b ds g.room rev id v (get_or ds rev null)
@@ -283,7 +286,7 @@ module _ (b : HubConfig) (E : Log) (old : State) (s : ℕ) (mine : Home old s) (
   module _ (id : ℕ) (base : Option ℕ) (patch : List Op) (read : permitted x.access sent
       ≡ Ok (Edit id base patch)) (sends : sent ≡ Ok (Edit id base patch)) (i : IsCount id) where
     -- an edit changes no session's watching
-    same_watching : home E s ≡ Some (stay mine.room.name x.access x.will) → (t : ℕ)
+    same_watching : home E s ≡ Some (stay_of mine.room.name x) → (t : ℕ)
         → watching b (entry (Receive s text) (Heard (Answered short)) ∷ E) t ≡ watching b E t
     same_watching s_home t =
         by_number (λ t c. (if c then asked_at t else watching b E t) ≡ watching b E t) s t
@@ -294,7 +297,7 @@ module _ (b : HubConfig) (E : Log) (old : State) (s : ℕ) (mine : Home old s) (
         asked_at t = asked_at_home b (documents E) (watching b E t) (home E t) text
 
     -- nor its will
-    same_home : home E s ≡ Some (stay mine.room.name x.access x.will) → (t : ℕ)
+    same_home : home E s ≡ Some (stay_of mine.room.name x) → (t : ℕ)
         → home (entry (Receive s text) (Heard (Answered short)) ∷ E) t ≡ home E t
     same_home s_home t =
         by_number (λ t c. (if c then option_map (willed text) (home E t) else home E t)
@@ -308,7 +311,7 @@ module _ (b : HubConfig) (E : Log) (old : State) (s : ℕ) (mine : Home old s) (
     edit_stands d makes step =
         let e = entry (Receive s text) (Heard (Answered short)) in
         let newer : documents (e ∷ E) mine.room.name ≡ ds ++ d ∷ [] =
-        one_added E s short text mine.room.name x.access x.will d at_home.0
+        one_added E s short text (stay_of mine.room.name x) d at_home.0
         (rw read (same_edit b ds g.room base patch was ∙ ap result_ok makes)) in
         let notified = step.0 in
         let room : RoomStands b (beginning E mine.room.name) (ds ++ d ∷ []) notified =
@@ -316,7 +319,7 @@ module _ (b : HubConfig) (E : Log) (old : State) (s : ℕ) (mine : Home old s) (
         let answer = Done id (revision notified) in
         let changes = all_changes g.room.document patch in
         room_changes b E e old mine.room h stands
-        (others_stay E s short text mine.room.name x.access x.will at_home.0) (λ other apart.
+        (others_stay E s short text (stay_of mine.room.name x) at_home.0) (λ other apart.
         refl)
         refl (record { opened = refl; count = refl; rooms = λ name. refl })
         (rw (newer, step.5) (trimmed_stands b (ds ++ d ∷ []) notified b.history_weight (λ all.

@@ -61,7 +61,7 @@ pub session_there : (xs : List Session) (s i : ℕ) → position (is_number s) x
 session_there xs s i h =
     let p = some_at xs i (index_within xs s i h).0 in (p.0, found xs s i h ∙ p.1)
 
-number_of-found : (xs : List Session) (s : ℕ) (x : Session) → session_in xs s ≡ Some x
+pub number_of-found : (xs : List Session) (s : ℕ) (x : Session) → session_in xs s ≡ Some x
     → x.number ≡ s
 number_of-found [] s x h = absurd (cc h)
 number_of-found (y ∷ ys) s x h =

@@ -164,7 +164,12 @@ shed_wills rooms budget (w ∷ wills) =
     ) (one (slice_get rooms w.room_index))
   where
     bequest : Option (List ℕ × RoomSessions) → Bequest
-    bequest o = record { room = option_map_or (λ r. r.0) o []; patch = w.patch }
+    bequest o = record {
+      session = w.session;
+      number = w.number;
+      room = option_map_or (λ r. r.0) o [];
+      patch = w.patch;
+    }
 
     one : (o : Option (List ℕ × RoomSessions))
         → bequest (option_map (shed_named budget) o) ∷ map (named_will rooms) wills

@@ -34,18 +34,19 @@ have_set rooms i r wills h =
     have_more rooms (slice_set rooms i r) wills (omega (arith, length-set rooms i r)) h
 
 -- what a closed session leaves has its room
-pub have_left : (rooms : Rooms) (wills : List Will) (index : ℕ) (patch : List Op)
+pub have_left : (rooms : Rooms) (wills : List Will) (s number index : ℕ) (patch : List Op)
     → index < length rooms → HaveRooms rooms wills
-    → HaveRooms rooms (wills ++ left_of index patch)
-have_left rooms [] index [] within h = tt
-have_left rooms [] index (op ∷ ops) within h = (within, tt)
-have_left rooms (w ∷ wills) index patch within h =
-    (h.0, have_left rooms wills index patch within h.1)
+    → HaveRooms rooms (wills ++ left_of s number index patch)
+have_left rooms [] s number index [] within h = tt
+have_left rooms [] s number index (op ∷ ops) within h = (within, tt)
+have_left rooms (w ∷ wills) s number index patch within h =
+    (h.0, have_left rooms wills s number index patch within h.1)
 
 -- it is at most one will
-pub few_left : (index : ℕ) (patch : List Op) → length (left_of index patch) ≤ 1
-few_left index [] = omega arith
-few_left index (op ∷ ops) = omega arith
+pub few_left : (s number index : ℕ) (patch : List Op)
+    → length (left_of s number index patch) ≤ 1
+few_left s number index [] = omega arith
+few_left s number index (op ∷ ops) = omega arith
 
 -- Names.
 
@@ -85,8 +86,8 @@ named_earlier rooms room wills have = same_named rooms (rooms ++ room ∷ []) wi
         rw (slice_get-earlier rooms room r.0 w.room_index r.1, r.1) refl
 
 -- what a closed session left, by the name of its room
-pub named_left : (rooms : Rooms) (index : ℕ) (name : List ℕ) (g : RoomSessions) (patch : List Op)
-    → slice_get rooms index ≡ Some (name, g)
-    → map (named_will rooms) (left_of index patch) ≡ left_in name patch
-named_left rooms index name g [] there = refl
-named_left rooms index name g (op ∷ ops) there = rw there refl
+pub named_left : (rooms : Rooms) (s number index : ℕ) (name : List ℕ) (g : RoomSessions)
+    (patch : List Op) → slice_get rooms index ≡ Some (name, g)
+    → map (named_will rooms) (left_of s number index patch) ≡ left_in s number name patch
+named_left rooms s number index name g [] there = refl
+named_left rooms s number index name g (op ∷ ops) there = rw there refl

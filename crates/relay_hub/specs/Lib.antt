@@ -7,6 +7,7 @@ pub mod State
 pub mod Representation
 pub mod EncodedPatch
 pub mod Session
+pub mod SessionWill
 pub mod SnapshotText
 pub mod Load
 pub mod Allowance

@@ -28,6 +28,7 @@ use Rattle.relay_hub.specs.declared.event.Event.{Event}
 use Rattle.relay_hub.specs.declared.event.Event.TheVariants.{Open, Receive, Draw, Close, DoWill}
 use Rattle.relay_hub.specs.declared.event.Event.TheVariants.{Forget, Adopt}
 use Rattle.relay_hub.specs.declared.event.Heard.TheVariants.{Answered}
+use Rattle.relay_hub.specs.Session.{next_will}
 
 -- an event and its answer. A call that ran out of memory changed nothing, and has no entry
 pub record Entry : Type 0 where
@@ -42,30 +43,41 @@ Log = List Entry
 
 -- The open sessions, and their rooms.
 
--- a session's stay: the name of the room in which it is open, what it may do there, and its will,
--- which may be empty
+-- a session's stay: the name of the room in which it is open, what it may do there, its will, which
+-- may be empty, and how many wills it has left so far
 pub record Stay : Type 0 where
   pub room : List ℕ
   pub access : Access
   pub will : List Op
+  pub will_number : ℕ
 
-abbrev pub stay : List ℕ → Access → List Op → Stay
-stay name access will = record { room = name; access = access; will = will }
+abbrev pub stay : List ℕ → Access → List Op → ℕ → Stay
+stay name access will will_number =
+    record { room = name; access = access; will = will; will_number = will_number }
 
 -- the will of a session after a request
 abbrev pub will_after : List Op → Result Request Refusal → List Op
 will_after was (Ok (Will id patch)) = patch
 will_after was _ = was
 
+-- how many wills a session has left after a request; one that withdraws its will counts too
+abbrev pub wills_after : ℕ → Result Request Refusal → ℕ
+wills_after was (Ok (Will id patch)) = next_will was
+wills_after was _ = was
+
+-- the stay after a request
+abbrev pub stay_after : Stay → Result Request Refusal → Stay
+stay_after p sent =
+    stay p.room p.access (will_after p.will sent) (wills_after p.will_number sent)
+
 -- the same after a text of a session that is open there
 abbrev pub willed : List ℕ → Stay → Stay
-willed text p =
-    stay p.room p.access (will_after p.will (permitted p.access (request_of_text text)))
+willed text p = stay_after p (permitted p.access (request_of_text text))
 
 -- where session s is open, if it is, after an event
 abbrev pub home_after : Option Stay → ℕ → Event → Answer → Option Stay
 home_after was s (Open name access) (Opened o) =
-    if o.session == s then Some (stay name access []) else was
+    if o.session == s then Some (stay name access [] 0) else was
 home_after was s (Receive t text) (Heard (Answered short)) =
     if t == s then option_map (willed text) was else was
 home_after was s (Close t) Closed = if t == s then None else was
@@ -88,22 +100,26 @@ is_opened (e ∷ E) name = is_opened_after (is_opened E name) name e.event e.ans
 
 -- The wills that are left to be done.
 
--- the name of a room and a patch for it
+-- the number of a session, the number of the will among those that it left, the name of a room and
+-- a patch for it
 pub record Bequest : Type 0 where
+  pub session : ℕ
+  pub number : ℕ
   pub room : List ℕ
   pub patch : List Op
 
 -- what a session leaves that was open there: nothing, or its will
-abbrev pub left_in : List ℕ → List Op → List Bequest
-left_in name [] = []
-left_in name (op ∷ ops) = record { room = name; patch = op ∷ ops } ∷ []
+abbrev pub left_in : ℕ → ℕ → List ℕ → List Op → List Bequest
+left_in s number name [] = []
+left_in s number name (op ∷ ops) =
+    record { session = s; number = number; room = name; patch = op ∷ ops } ∷ []
 
-abbrev pub left_by : Option Stay → List Bequest
-left_by (Some p) = left_in p.room p.will
-left_by None = []
+abbrev pub left_by : ℕ → Option Stay → List Bequest
+left_by s (Some p) = left_in s p.will_number p.room p.will
+left_by s None = []
 
 abbrev pub left_after : (ℕ → Option Stay) → List Bequest → Event → Answer → List Bequest
-left_after homes was (Close s) Closed = was ++ left_by (homes s)
+left_after homes was (Close s) Closed = was ++ left_by s (homes s)
 left_after homes was DoWill (WillDone short) = drop 1 was
 left_after homes was _ _ = was
 

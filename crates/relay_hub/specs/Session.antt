@@ -19,6 +19,7 @@ use Rattle.relay_room.specs.Room.{State as Room, revision}
 use Rattle.relay_room.specs.declared.catch_up.CatchUp.{CatchUp}
 use Rattle.relay_room.specs.declared.catch_up.CatchUp.TheVariants.{Nothing, Patch, Snapshot}
 use Rattle.relay_tree.specs.Budget.{paid}
+use Rattle.relay_tree.specs.Document.{saturated}
 use Rattle.relay_tree.specs.declared.budget.Budget.{Budget}
 use Rattle.relay_view.specs.View.{View, view}
 use Rattle.relay_view.specs.declared.slot.Slot.{Slot}
@@ -28,7 +29,8 @@ use Rattle.relay_hub.specs.declared.config.HubConfig.{HubConfig}
 pub use Rattle.relay_hub.specs.EncodedPatch.{patch_message, message_text, ReadsBack}
 
 -- a session: its number, what it may do, the view that it watches, if it does, its outbox, how much
--- the waiting patches may weigh, and its will: the patch for when it has ended, which may be empty
+-- the waiting patches may weigh, its will: the patch for when it has ended, which may be empty, and
+-- how many wills it has left so far
 pub record Session : Type 0 where
   pub number : ℕ
   pub access : Access
@@ -36,6 +38,7 @@ pub record Session : Type 0 where
   pub outbox : Contents Reply (ℕ × List Op)
   pub budget : Budget
   pub will : List Op
+  pub will_number : ℕ
 
 -- the session with another view and another outbox
 abbrev pub session_with : Option View → Contents Reply (ℕ × List Op) → Session → Session
@@ -46,9 +49,14 @@ session_with pointers contents x = record {
   outbox = contents;
   budget = x.budget;
   will = x.will;
+  will_number = x.will_number;
 }
 
--- the session with another will
+-- how many wills were left after one more, counted up to the top of 64 bits
+abbrev pub next_will : ℕ → ℕ
+next_will n = saturated (n + 1)
+
+-- the session with another will, which is counted
 abbrev pub with_will : List Op → Session → Session
 with_will ops x = record {
   number = x.number;
@@ -57,6 +65,7 @@ with_will ops x = record {
   outbox = x.outbox;
   budget = x.budget;
   will = ops;
+  will_number = next_will x.will_number;
 }
 
 -- The invariant of each session.
@@ -81,6 +90,7 @@ newcomer config access rev number = record {
   outbox = with_reply (Welcome config.epoch rev number) (empty config.max_waiting_patches);
   budget = config.waiting_weight;
   will = [];
+  will_number = 0;
 }
 
 -- The weight of what waits.
@@ -181,17 +191,19 @@ access_code = code_by Bool coded_bool may_edit access_where access_kept
 
 abbrev pub session_code : Coded Slot → Coded Reply → Coded Op → Coded Session
 session_code slots replies ops =
-    code_by (ℕ × (Access × (Option View × (Contents Reply (ℕ × List Op) × (Budget × List Op)))))
+    code_by
+    (ℕ × (Access × (Option View × (Contents Reply (ℕ × List Op) × (Budget × (List Op × ℕ))))))
     (coded× coded_ℕ (coded× access_code (coded× (coded_option (coded_list slots))
     (coded× (contents_code replies (coded× coded_ℕ (coded_list ops)))
-    (coded× budget_code (coded_list ops))))))
-    (λ x. (x.number, (x.access, (x.view, (x.outbox, (x.budget, x.will))))))
+    (coded× budget_code (coded× (coded_list ops) coded_ℕ))))))
+    (λ x. (x.number, (x.access, (x.view, (x.outbox, (x.budget, (x.will, x.will_number)))))))
     (λ p. record {
       number = p.0;
       access = p.1.0;
       view = p.1.1.0;
       outbox = p.1.1.1.0;
       budget = p.1.1.1.1.0;
-      will = p.1.1.1.1.1;
+      will = p.1.1.1.1.1.0;
+      will_number = p.1.1.1.1.1.1;
     })
     (λ _. refl)

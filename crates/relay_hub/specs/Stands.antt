@@ -101,10 +101,14 @@ WatchStands documents room x (Some w) =
 WatchStands documents room x None =
     (x.view ≡ None) × (x.outbox.patches ≡ []) × (x.outbox.due ≡ false)
 
+-- the stay of a session that is open in the room of that name
+abbrev pub stay_of : List ℕ → Session → Stay
+stay_of name x = stay name x.access x.will x.will_number
+
 abbrev pub SessionStands : ℕ → (List ℕ → List Document) → List ℕ → Room → Option Session
     → Option Stay → Option Watching → Type 0
 SessionStands most documents name room (Some x) there w =
-    (there ≡ Some (stay name x.access x.will)) × OutboxStands most x
+    (there ≡ Some (stay_of name x)) × OutboxStands most x
     × WatchStands (documents name) room x w
 SessionStands most documents name room None there w = ⊥
 
@@ -128,8 +132,12 @@ MayBegin floor documents = (length documents ≤ floor) ⊎ (documents ≡ null 
 
 -- what a will leaves, by the name of its room
 abbrev pub named_will : List (List ℕ × RoomSessions) → Will → Bequest
-named_will rooms w =
-    record { room = option_map_or (λ r. r.0) (slice_get rooms w.room_index) []; patch = w.patch }
+named_will rooms w = record {
+  session = w.session;
+  number = w.number;
+  room = option_map_or (λ r. r.0) (slice_get rooms w.room_index) [];
+  patch = w.patch;
+}
 
 pub record StandsFor (b : HubConfig) (E : Log) (hub : State) : Type 0 where
   pub config : hub.config ≡ b

@@ -202,10 +202,10 @@ room_sessions_code change session = code_by (Room × List Session)
     (λ _. refl)
 
 abbrev pub will_code : Coded Op → Coded Will
-will_code op = code_by (ℕ × List Op)
-    (coded× coded_ℕ (coded_list op))
-    (λ w. (w.room_index, w.patch))
-    (λ p. record { room_index = p.0; patch = p.1 })
+will_code op = code_by (ℕ × (ℕ × (ℕ × List Op)))
+    (coded× coded_ℕ (coded× coded_ℕ (coded× coded_ℕ (coded_list op))))
+    (λ w. (w.session, (w.number, (w.room_index, w.patch))))
+    (λ p. record { session = p.0; number = p.1.0; room_index = p.1.1.0; patch = p.1.1.1 })
     (λ _. refl)
 
 abbrev pub hub_code : Coded Change → Coded Op → Coded Session → Coded State

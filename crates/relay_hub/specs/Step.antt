@@ -333,13 +333,20 @@ pub record Opens (old : State) (name : List ℕ) (access : Access) (o : Opening)
   pub count : length new.homes ≡ length old.homes + 1
   pub wills : new.wills ≡ old.wills
 
--- what a session leaves to be done: nothing, or its will
-abbrev pub left_of : ℕ → List Op → List WillLeft
-left_of room_index [] = []
-left_of room_index (op ∷ ops) = record { room_index = room_index; patch = op ∷ ops } ∷ []
+-- the will of a session of the room at an index, which may be empty
+abbrev pub will_of : ℕ → Session → WillLeft
+will_of room_index x =
+    record { session = x.number; number = x.will_number; room_index = room_index; patch = x.will }
 
--- session s is removed from its room, which stays, and is open nowhere; its will is left to be done
-pub record Closes (s index : ℕ) (name : List ℕ) (g : RoomSessions) (will : List Op) (old : State)
+-- what a session leaves to be done: nothing, or its will
+abbrev pub left_of : ℕ → ℕ → ℕ → List Op → List WillLeft
+left_of s number room_index [] = []
+left_of s number room_index (op ∷ ops) =
+    record { session = s; number = number; room_index = room_index; patch = op ∷ ops } ∷ []
+
+-- session s, which is x, is removed from its room, which stays, and is open nowhere; its will is
+-- left to be done
+pub record Closes (s index : ℕ) (name : List ℕ) (g : RoomSessions) (x : Session) (old : State)
     (new : State) : Type 0 where
   pub next : new.next ≡ old.next
   pub config : new.config ≡ old.config
@@ -349,12 +356,12 @@ pub record Closes (s index : ℕ) (name : List ℕ) (g : RoomSessions) (will : L
   pub rooms : new.rooms ≡ slice_set old.rooms index (name, left)
   pub home : (t : ℕ) → index_of new t ≡ (if s == t then None else index_of old t)
   pub count : length new.homes + 1 ≡ length old.homes
-  pub wills : new.wills ≡ old.wills ++ left_of index will
+  pub wills : new.wills ≡ old.wills ++ left_of s x.will_number index x.will
 
 abbrev pub ClosesIn : ℕ → ℕ → List ℕ → RoomSessions → Option Session → State → Answer → State
     → Type 0
 ClosesIn s index name g None old NoSession new = new ≡ old
-ClosesIn s index name g (Some x) old Closed new = Closes s index name g x.will old new
+ClosesIn s index name g (Some x) old Closed new = Closes s index name g x old new
 ClosesIn s index name g x old answer new = ⊥
 
 abbrev pub ClosesInRoom : ℕ → ℕ → Option (List ℕ × RoomSessions) → State → Answer → State → Type 0

@@ -361,8 +361,8 @@ impl Hub {
         let Some(room_sessions) = self.rooms.get_index_mut(*index) else {
             unreachable!()
         };
-        let patch = room_sessions.leave(session);
-        leave_behind(&mut self.wills, *index, patch);
+        let will = room_sessions.leave(session, *index);
+        leave_behind(&mut self.wills, will);
         let _ = self.homes.swap_remove(&session);
         Ok(())
     }

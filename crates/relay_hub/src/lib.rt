@@ -34,6 +34,7 @@ mod requests;
 mod room_sessions;
 mod room_update;
 mod session;
+mod session_will;
 mod shed;
 mod snapshot_text;
 mod summary;
@@ -50,6 +51,8 @@ pub use fault::{AdoptFault, ForgetFault, HubFault, HubNewFault, NoSession, OpenF
 pub use hub::Hub;
 pub use message_counts::{FaultCount, MessageCounts, SnapshotCounts};
 pub use room_update::RoomUpdate;
+pub use session_will::SessionWill;
 pub use summary::RoomSummary;
 pub use text::Text;
 pub use told::Told;
+pub use will::Will;

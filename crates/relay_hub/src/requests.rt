@@ -10,7 +10,7 @@ ghost use Rattle.relay_hub.specs.Session.{Session, leaves_will, watches as watch
 ghost use Rattle.relay_hub.specs.Session.{waiting};
 ghost use Rattle.relay_hub.specs.SnapshotText.{IsSnapshotText};
 ghost use Rattle.relay_hub.specs.State.{IsRising, is_number, room_sessions, numbers, session_in};
-ghost use Rattle.relay_hub.specs.Step.{EditServed, ResumeServed, Serves, OnlyAt};
+ghost use Rattle.relay_hub.specs.Step.{EditServed, ResumeServed, Serves, OnlyAt, will_of};
 ghost use Rattle.relay_hub.specs.Told.{ChangesTold, ChangesToldAnd};
 ghost use Rattle.relay_hub.specs.Watched.{AreAudiencesOf};
 
@@ -28,6 +28,7 @@ use crate::snapshot_text::SnapshotText;
 use crate::text_size::TextSize;
 use crate::told::Told;
 use crate::update::Update;
+use crate::will::Will;
 use bytes::ByteStr;
 use relay_audience::Audiences;
 use relay_history::ReservedRevision;
@@ -400,19 +401,26 @@ pub fn draw(
     }
 }
 
-/// Removes a session that is there, from its audience too. Returns what it leaves behind.
-pub fn remove(sessions: &mut Vec<Session>, audiences: &mut Audiences, number: u64) -> Patch
+/// Removes a session that is there, from its audience too. Returns what it leaves behind in the
+/// room at an index.
+pub fn remove(
+    sessions: &mut Vec<Session>,
+    audiences: &mut Audiences,
+    number: u64,
+    room_index: usize,
+) -> Will
     requires there { IsSome (session_in sessions.old.items number) }
     requires agree { AreAudiencesOf audiences.old sessions.old.items }
     ensures gone { OnlyAt number None sessions.old.items sessions.new.items }
-    ensures will { (x : Session) → session_in sessions.old.items number ≡ Some x → result ≡ x.will }
+    ensures will { (x : Session) → session_in sessions.old.items number ≡ Some x
+        → result ≡ will_of room_index x }
     ensures agree { AreAudiencesOf audiences.new sessions.new.items }
 {
     let session = take_session(sessions, number);
     if let Some(view) = session.view() {
         audiences.unwatch(number, view);
     }
-    session.into_will()
+    session.into_will(room_index)
 }
 
 /// Removes and returns the session with that number, which is there. The later ones move down.

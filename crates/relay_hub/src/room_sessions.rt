@@ -12,9 +12,11 @@ use crate::fault::{AdoptFault, ForgetFault, HubFault};
 use crate::message_counts::MessageCounts;
 use crate::report::Report;
 use crate::session::Session;
+use crate::session_will::{SessionWill, will_held};
 use crate::shed::shed_sessions;
 use crate::snapshot_text::SnapshotText;
 use crate::told::Told;
+use crate::will::Will;
 use crate::{cost, requests};
 use bytes::ByteStr;
 use relay_audience::Audiences;
@@ -57,7 +59,7 @@ impl Model for RoomSessions {
 impl RoomSessions {
     ghost use Rattle.std.specs.Prelude.{◌≡◌, ◌≢◌, ◌<◌, ◌≤◌, ◌+◌, true, [], ◌∷◌, Some, None, Ok};
     ghost use Rattle.std.specs.Prelude.{IfOk, IfErr, OnOk, OnErr, IsErrOf, IsSome, IsSomeAnd};
-    ghost use Rattle.std.specs.Prelude.{length, option_map};
+    ghost use Rattle.std.specs.Prelude.{length, option_map, slice_get};
     ghost use Rattle.relay_limits.specs.declared.TheConstants.{MAX_REVISIONS};
     ghost use Rattle.relay_room.specs.Room.{begun, revision};
     ghost use Rattle.relay_tree.specs.Document.{null, weight};
@@ -65,9 +67,12 @@ impl RoomSessions {
     ghost use Rattle.relay_hub.specs.Call.{HasSpace, IsAbove};
     ghost use Rattle.relay_hub.specs.Caller.{IsCaller};
     ghost use Rattle.relay_hub.specs.Session.{Session, waiting};
+    ghost use Rattle.relay_hub.specs.SessionWill.{held_will, shown_will};
     ghost use Rattle.relay_hub.specs.Shed.{shed_room};
-    ghost use Rattle.relay_hub.specs.State.{room_sessions, is_evictable, above, session_in};
+    ghost use Rattle.relay_hub.specs.State.{IsRising, room_sessions, is_evictable, above};
+    ghost use Rattle.relay_hub.specs.State.{session_in};
     ghost use Rattle.relay_hub.specs.Step.{ChangesOnly, Serves, anew_fault, forget_fault_of};
+    ghost use Rattle.relay_hub.specs.Step.{will_of};
     ghost use Rattle.relay_hub.specs.Told.{ChangesTold, ChangesToldAnd};
 
     /// A room with its first session, which watches nothing.
@@ -151,6 +156,17 @@ impl RoomSessions {
         session_at(sessions, Caller::find(sessions, number))
     }
 
+    /// The will of the session at a place, in the order of their numbers. `None` if there are no
+    /// more. Allocates nothing.
+    pub fn will_at(&self, place: usize) -> Option<SessionWill<'_>>
+        ensures will { option_map shown_will result
+            ≡ option_map held_will (slice_get self.now.sessions place) }
+        ensures rising { IsRising self.now.sessions }
+    {
+        let session = self.sessions.get(place)?;
+        Some(will_held(session))
+    }
+
     /// Adds a session, which watches nothing, behind the others. Its number is above theirs. Out of
     /// memory changes nothing.
     pub fn join(&mut self, session: Session) -> Result<(), AllocError>
@@ -163,15 +179,15 @@ impl RoomSessions {
         Ok(())
     }
 
-    /// Removes a session that is there, and returns the will that it leaves, which may be empty.
-    /// Allocates nothing.
-    pub fn leave(&mut self, number: u64) -> Patch
+    /// Removes a session that is there, and returns the will that it leaves in the room at an
+    /// index, which may be empty. Allocates nothing.
+    pub fn leave(&mut self, number: u64, room_index: usize) -> Will
         requires { IsSome (session_in self.old.sessions number) }
         ensures gone { ChangesOnly number None self.old self.new }
         ensures will { (x : Session) → session_in self.old.sessions number ≡ Some x
-            → result ≡ x.will }
+            → result ≡ will_of room_index x }
     {
-        requests::remove(&mut self.sessions, &mut self.audiences, number)
+        requests::remove(&mut self.sessions, &mut self.audiences, number, room_index)
     }
 
     /// Does the will of a session that is closed ([`requests::do_will`]). `AllocError` changes

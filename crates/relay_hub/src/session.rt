@@ -5,6 +5,7 @@ use crate::encoded_patch::EncodedPatch;
 use crate::message_counts::{MessageCounts, SnapshotCause};
 use crate::snapshot_text::SnapshotText;
 use crate::update::Update;
+use crate::will::Will;
 use crate::{cost, load};
 use bytes::ByteStr;
 use relay_access::Access;
@@ -18,8 +19,8 @@ use std::alloc::{AllocError, Global};
 use std::marker::Model;
 
 /// An open session. Contracts see it as its number, what it may do, the view that it watches, if
-/// any, its outbox, what the patches there may weigh, and its will. If it watches nothing, only
-/// replies wait.
+/// any, its outbox, what the patches there may weigh, its will and how many it has left. If it
+/// watches nothing, only replies wait.
 #[derive(Drop)]
 pub struct Session {
     number: u64,
@@ -34,6 +35,8 @@ pub struct Session {
     due_for: SnapshotCause,
     /// The patch for when it has ended, which may be empty.
     will: Patch,
+    /// The number of wills that it has left so far, at most `u64::MAX`.
+    will_number: u64,
 }
 
 impl Model for Session {
@@ -54,6 +57,7 @@ impl Model for Session {
       outbox = x.outbox;
       budget = x.budget;
       will = x.will;
+      will_number = x.will_number;
     } };
 
     ghost invariant = { λ x. IsSession
@@ -64,6 +68,7 @@ impl Model for Session {
           outbox = x.outbox;
           budget = x.budget;
           will = x.will;
+          will_number = x.will_number;
         }) × IsLoad x.budget x.load x.outbox };
 }
 
@@ -80,6 +85,7 @@ impl Session {
     ghost use Rattle.relay_hub.specs.Session.{with_outbox, replied, newcomer, leaves_will, watches};
     ghost use Rattle.relay_hub.specs.Session.{unwatches, resumes, front_message, message_text};
     ghost use Rattle.relay_hub.specs.Session.{ReadsBack, waiting, drawn};
+    ghost use Rattle.relay_hub.specs.Step.{will_of};
 
     /// Makes a session in a room at revision `rev`. It watches nothing, and a `Welcome` waits in
     /// its outbox.
@@ -117,6 +123,7 @@ impl Session {
             load: 0,
             due_for: SnapshotCause::Watch,
             will: Patch::from_ops(Vec::new(alloc)),
+            will_number: 0,
         })
     }
 
@@ -189,21 +196,46 @@ impl Session {
         };
     }
 
-    /// Leaves a will, in place of the one that it left before. Adds the reply.
+    /// Leaves a will, in place of the one that it left before, and counts it. Adds the reply.
     pub fn leave_will(&mut self, reserved: ReservedReply, id: u64, patch: Patch)
         requires { length self.old.outbox.replies < MAX_REPLIES }
         ensures { self.new ≡ leaves_will id patch self.old }
     {
         self.reply(reserved, Reply::Willing { id });
         self.will = patch;
+        self.will_number = self.will_number.saturating_add(1);
     }
 
-    /// The will that it leaves behind, which may be empty.
-    pub fn into_will(self) -> Patch
-        ensures { result ≡ self.will }
+    /// The will that it has left, which may be empty.
+    pub fn will(&self) -> &Patch
+        ensures { result.now ≡ self.now.will }
     {
-        let Session { will, .. } = self;
-        will
+        &self.will
+    }
+
+    /// The number of wills that it has left so far, at most `u64::MAX`.
+    pub fn will_number(&self) -> u64
+        ensures { result ≡ self.now.will_number }
+    {
+        self.will_number
+    }
+
+    /// The will that it leaves behind in the room at an index, which may be empty.
+    pub fn into_will(self, room_index: usize) -> Will
+        ensures { result ≡ will_of room_index self }
+    {
+        let Session {
+            number,
+            will,
+            will_number,
+            ..
+        } = self;
+        Will {
+            session: number,
+            number: will_number,
+            room_index,
+            patch: will,
+        }
     }
 
     /// Watches the view from now on. Adds the reply, and makes a snapshot due.

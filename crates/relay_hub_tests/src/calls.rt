@@ -4,7 +4,7 @@ use crate::shared::{Came, at_revision, number, owned, repeated, tree_of, words};
 use crate::weights::WATCHING;
 use bytes::ByteStr;
 use relay_access::Access;
-use relay_hub::{Hub, HubConfig, HubFault, MessageCounts, OpenFault};
+use relay_hub::{Hub, HubConfig, HubFault, MessageCounts, OpenFault, SessionWill, Will};
 use relay_test_stream::{Subject, cut, play};
 use relay_tree::{Budget, Tree};
 use std::alloc::{AllocGlobal, Global};
@@ -114,6 +114,7 @@ fn act_on_one(alloc: Global, hub: &mut Hub, word: &str, rest: &str) -> Came {
         "draw" => drawn(alloc, hub.draw(alloc, number)),
         "draw-bytes" => words(alloc, drawn(alloc, hub.draw(alloc, number))?.len()),
         "close" => words(alloc, hub.close(number)),
+        "will-in" => seen_will(alloc, hub.will_in(number as usize, place(text)?)),
         _ => seen_of_one(alloc, hub, word, number),
     }
 }
@@ -131,6 +132,7 @@ fn seen_of_one(alloc: Global, hub: &Hub, word: &str, number: u64) -> Came {
         "may-hear" => words(alloc, hub.may_hear(number)),
         "truth" => seen(alloc, hub.truth(alloc, number)),
         "room-at" => words(alloc, hub.room_at(number as usize)),
+        "waiting-will" => waiting_will(alloc, hub.waiting_wills().get(number as usize)),
         _ => None,
     }
 }
@@ -189,6 +191,30 @@ fn seen(alloc: Global, held: Result<Option<(u64, Tree)>, HubFault>) -> Came {
         Ok(None) => owned(alloc, "nothing"),
         Err(fault) => words(alloc, fault),
     }
+}
+
+/// The place that a word spells.
+fn place(word: &str) -> Option<usize> {
+    word.parse::<usize>().ok()
+}
+
+/// The session of a will, its number there and how many operations it has, as text.
+fn seen_will(alloc: Global, will: Option<SessionWill<'_>>) -> Came {
+    let Some(will) = will else {
+        return owned(alloc, "nothing");
+    };
+    let (session, number, ops) = (will.session, will.number, will.patch.ops().len());
+    format!(in alloc; "{session} {number} {ops}").ok()
+}
+
+/// The same of a will that waits, and the index of its room in front.
+fn waiting_will(alloc: Global, will: Option<&Will>) -> Came {
+    let Some(will) = will else {
+        return owned(alloc, "nothing");
+    };
+    let (room, session, number) = (will.room_index, will.session, will.number);
+    let ops = will.patch.ops().len();
+    format!(in alloc; "{room} {session} {number} {ops}").ok()
 }
 
 /// The number of replies, of refusals and of patches that the sessions drew, and of snapshots, by

@@ -3,7 +3,7 @@
 use crate::replies::REPLIES;
 use crate::shared::{Came, number, owned, patch_of, tree_of, view_of, words};
 use relay_access::is_room_name;
-use relay_proto::{Message, Reply, Request, patch_text, shown_text, snapshot_text};
+use relay_proto::{Message, Reply, Request, patch_text, shown_text, snapshot_text, will_text};
 use relay_test_stream::{Subject, cut, play};
 use std::alloc::{AllocGlobal, Global};
 
@@ -42,6 +42,11 @@ message-of-reply 7 => {"at":null,"fault":"stale","id":9,"kind":"refused","rev":2
 patch 3 [{"op":"move","path":"/0/0/b","from":"/0/0/a~1","more":1},{"op":"test","path":"","value":null}] => {"kind":"patch","patch":[{"from":"/0/0/a~1","op":"move","path":"/0/0/b"},{"op":"test","path":"","value":null}],"rev":3}
 snapshot 1 [[1],[]] => {"kind":"snapshot","rev":1,"view":[[1],[]]}
 shown 2 ["/a","/b",{"size":""}] {"a":{"c":"\u0007\"é","b":[-1]}} => {"kind":"snapshot","rev":2,"view":[[{"b":[-1],"c":"\u0007\"é"}],[],[1]]}
+
+# Writes a request that leaves a will, which reads as that will.
+will [{"op":"move","path":"/b","from":"/a~1","more":1},{"op":"test","path":"","value":"é"}] => {"do":"will","id":1,"patch":[{"from":"/a~1","op":"move","path":"/b"},{"op":"test","path":"","value":"é"}]}
+will [] => {"do":"will","id":1,"patch":[]}
+request {"do":"will","id":1,"patch":[{"from":"/a~1","op":"move","path":"/b"},{"op":"test","path":"","value":"é"}]} => will 1 2
 
 # Messages read back: each is written again as the same text.
 message {"epoch":1,"kind":"welcome","rev":0,"session":2} => {"epoch":1,"kind":"welcome","rev":0,"session":2}
@@ -87,6 +92,7 @@ impl<R: AllocGlobal> Subject<R> for Texts {
             "patch" => patch_written(alloc, rest),
             "snapshot" => snapshot_written(alloc, rest),
             "shown" => shown_written(alloc, rest),
+            "will" => will_text(alloc, &patch_of(alloc, rest)?).ok(),
             _ => act_of_reading(alloc, word, rest),
         }
     }

@@ -105,6 +105,55 @@ begin b => Ok(Opening { session: 3, rev: 4 })
 forget a => Err(NoRoom)
 "#;
 
+const NUMBERED: &str = r#"
+# A session has left no will, and then one after the other.
+new
+begin a => Ok(Opening { session: 1, rev: 0 })
+begin b => Ok(Opening { session: 2, rev: 0 })
+begin b => Ok(Opening { session: 3, rev: 0 })
+will-in 1 0 => 2 0 0
+say 2 {"do":"will","id":1,"patch":[{"op":"replace","path":"","value":7}]} => Ok(Answered { short: 0 })
+will-in 1 0 => 2 1 1
+say 2 {"do":"will","id":2,"patch":[{"op":"test","path":"","value":7},{"op":"remove","path":"/a"}]} => Ok(Answered { short: 0 })
+will-in 1 0 => 2 2 2
+
+# One that is refused does not count; one that withdraws it does.
+say 2 {"do":"will","id":3,"patch":[{"op":"nothing","path":""}]} => Ok(Answered { short: 0 })
+will-in 1 0 => 2 2 2
+say 2 {"do":"will","id":4,"patch":[]} => Ok(Answered { short: 0 })
+will-in 1 0 => 2 3 0
+
+# The sessions of a room have theirs by rising number, and those that are behind the last have none.
+say 3 {"do":"will","id":1,"patch":[{"op":"replace","path":"","value":8}]} => Ok(Answered { short: 0 })
+will-in 0 0 => 1 0 0
+will-in 0 1 => nothing
+will-in 1 1 => 3 1 1
+will-in 1 2 => nothing
+will-in 2 0 => nothing
+
+# One that was withdrawn is not left. One that is left waits until it is done.
+close 2 => Ok(())
+waiting-will 0 => nothing
+will-in 1 0 => 3 1 1
+say 1 {"do":"will","id":1,"patch":[{"op":"replace","path":"","value":9}]} => Ok(Answered { short: 0 })
+close 3 => Ok(())
+close 1 => Ok(())
+will-in 1 0 => nothing
+waiting-will 0 => 1 3 1 1
+waiting-will 1 => 0 1 1 1
+waiting-will 2 => nothing
+do-will => Ok(Some(0))
+waiting-will 0 => 0 1 1 1
+waiting-will 1 => nothing
+do-will => Ok(Some(0))
+waiting-will 0 => nothing
+"#;
+
+#[test]
+fn wills_are_numbered_and_shown(rt: HostRuntime) {
+    play_on_hubs(&rt, NUMBERED);
+}
+
 #[test]
 fn wills_are_done_and_rooms_forgotten(rt: HostRuntime) {
     play_on_hubs(&rt, ROWS);

@@ -1,9 +1,10 @@
 //! Queries of a hub, which leave it unchanged.
 ghost use Rattle.std.specs.Prelude.{◌≡◌, ◌≢◌, ◌↔◌, Some, None, IfOk, IsErrOf, option_map};
-ghost use Rattle.std.specs.Prelude.{slice_get};
-ghost use Rattle.relay_hub.specs.State.{IsHub, index_of, session_of};
+ghost use Rattle.std.specs.Prelude.{ℕ, List, slice_get};
+ghost use Rattle.relay_hub.specs.State.{IsHub, IsRising, RoomSessions, index_of, session_of};
 ghost use Rattle.relay_hub.specs.Representation.{rooms_of};
 ghost use Rattle.relay_hub.specs.Session.{waiting};
+ghost use Rattle.relay_hub.specs.SessionWill.{held_will, session_at, shown_will};
 ghost use Rattle.relay_hub.specs.Summary.{room_named, shown_by, summary_of};
 ghost use Rattle.relay_tree.specs.Document.{saturated};
 ghost use Rattle.relay_hub.specs.Queries.{room_and_session, may_hear, rooms_weight, truth};
@@ -17,8 +18,10 @@ use crate::message_counts::MessageCounts;
 use crate::room_sessions::RoomSessions;
 use crate::room_update::{RoomUpdate, update_since};
 use crate::session::Session;
+use crate::session_will::SessionWill;
 use crate::summary::{RoomSummary, summary_of};
 use crate::told::Told;
+use crate::will::Will;
 use indexmap::IndexMap;
 use relay_room::Room;
 use relay_tree::Tree;
@@ -272,6 +275,49 @@ impl Hub {
             Some(index) => self.room_at(index),
             None => None,
         }
+    }
+
+    /// The will of the session at a place among those of the room at an index, both from 0, in the
+    /// order of the sessions' numbers. Its patch is empty if the session left none. `None` if the
+    /// room has no more sessions, or no room has that index. Allocates nothing.
+    ///
+    /// ```
+    /// let mut hub = Hub::new(alloc, 1, 1, 64, 32).ok()?;
+    /// let ann = hub.open(alloc, "board", Access::ReadWrite).ok()?.session;
+    /// hub.open(alloc, "board", Access::ReadOnly).ok()?;
+    /// let will = r#"{"do": "will", "id": 1, "patch": [{"op": "add", "path": "", "value": 7}]}"#;
+    /// hub.receive(alloc, ann, will).ok()?;
+    /// let (first, second) = (hub.will_in(0, 0)?, hub.will_in(0, 1)?);
+    /// assert!(rt; first.session == ann && first.number == 1 && second.number == 0);
+    /// assert!(rt; hub.will_in(0, 2).is_none() && hub.will_in(1, 0).is_none());
+    /// ```
+    #[tactic(auto, using(crate::proofs::Representation::room_at, crate::proofs::Representation::no_room_at))]
+    pub fn will_in(&self, index: usize, place: usize) -> Option<SessionWill<'_>>
+        ensures will { option_map shown_will result
+            ≡ option_map held_will (session_at self.now index place) }
+        ensures rising { (room : List ℕ × RoomSessions) → slice_get self.now.rooms index ≡ Some room
+            → IsRising room.1.sessions }
+    {
+        let (_, room_sessions) = self.rooms.get_index(index)?;
+        room_sessions.will_at(place)
+    }
+
+    /// The wills of closed sessions that are not done yet, the oldest first ([`Hub::do_will`]).
+    /// Allocates nothing.
+    ///
+    /// ```
+    /// let mut hub = Hub::new(alloc, 1, 1, 64, 32).ok()?;
+    /// let session = hub.open(alloc, "board", Access::ReadWrite).ok()?.session;
+    /// let will = r#"{"do": "will", "id": 1, "patch": [{"op": "add", "path": "", "value": 7}]}"#;
+    /// hub.receive(alloc, session, will).ok()?;
+    /// assert!(rt; hub.waiting_wills().is_empty());
+    /// hub.close(session).ok()?;
+    /// assert!(rt; hub.waiting_wills().len() == 1);
+    /// ```
+    pub fn waiting_wills(&self) -> &[Will]
+        ensures { result.now ≡ self.now.wills }
+    {
+        self.wills.as_slice()
     }
 
     /// The message for a client that holds its view of revision `held` of the room at an index, or

@@ -9,6 +9,7 @@ use Rattle.relay_hub.specs.declared.event.Event.TheVariants.{Close}
 use Rattle.relay_hub.proofs.Representation.{never_missing, is_there, session_there, hub_leaving}
 use Rattle.relay_hub.proofs.Representation.{closes}
 use Rattle.relay_hub.proofs.Members.{step_is_hub}
+use Rattle.relay_hub.proofs.Sessions.{number_of-found}
 use Rattle.relay_hub.proofs.Stands.{step_stands}
 use Rattle.relay_hub.proofs.hub.Hub.close.Goals as goal
 
@@ -17,8 +18,8 @@ unreachable-requires c =
     never_missing c.self.inside c.args.session c.in-Some.index.now c.self.invariant.0
     (sym c.in-Some.ensures.value) (sym c.in_default-get_index_mut.ensures.value)
 
-pub leave-patch-requires : goal.leave-patch-requires
-leave-patch-requires c =
+pub leave-will-requires : goal.leave-will-requires
+leave-will-requires c =
     is_there c.self.inside c.args.session c.in-Some.index.now c.self.invariant.0
     (sym c.in-Some.ensures.value) c.in-Some-get_index_mut.room_sessions.now
     (sym c.in-Some-get_index_mut.ensures.value)
@@ -40,7 +41,7 @@ leave_behind-requires c =
     )
 
 abbrev left : goal.After-swap_remove → RoomSessions
-left c = c.leave-patch.new.self
+left c = c.leave-will.new.self
 
 goes : (c : goal.After-swap_remove)
     → Step (hub_of c.self.inside) (Close c.args.session) answer.Closed
@@ -58,10 +59,13 @@ goes c =
     closes c.self.inside s c.in-Some.index.now g (left c) (sym c.in-Some.ensures.value)
     (sym c.in-Some-get_index_mut.ensures.value)
     c.swap_remove.new.self.entries c.leave_behind.new.wills.items there.0 there.1
-    c.leave-patch.ensures.gone c.swap_remove.ensures.updates.0 count
+    c.leave-will.ensures.gone c.swap_remove.ensures.updates.0 count
     (c.leave_behind.ensures.wills
-    ∙ ap (λ ops. c.self.inside.wills.items ++ left_of c.in-Some.index.now ops)
-    (c.leave-patch.ensures.will there.0 there.1))
+    ∙ ap (λ w. c.self.inside.wills.items ++ left_of w.session w.number w.room_index w.patch)
+    (c.leave-will.ensures.will there.0 there.1)
+    ∙ ap (λ n. c.self.inside.wills.items
+    ++ left_of n there.0.will_number c.in-Some.index.now there.0.will)
+    (number_of-found g.sessions s there.0 there.1))
 
 pub invariant_of-self : goal.invariant_of-self
 invariant_of-self c = (
