@@ -14,6 +14,9 @@ pub enum StoreFault {
     /// Another process has the file open.
     #[error("the file is in use")]
     InUse,
+    /// The system lets this user not write the file, or its folder.
+    #[error("the file or its folder may not be written")]
+    ReadOnly,
     /// The file was written by another program, or is no database.
     #[error("the file is no store of this relay")]
     NotAStore,

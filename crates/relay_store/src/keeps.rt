@@ -13,6 +13,7 @@ use crate::fault::StoreFault;
 /// let mut store = MemoryStore::new(alloc, 7);
 /// let begin = Change::Begin { room: "board", revision: 4, text: "{}" };
 /// store.commit(&[begin, Change::Edit { room: "board", revision: 5, text: "{}" }]).ok()?;
+/// store.checkpoint().ok()?;
 /// assert!(rt; store.read().ok()?.len() == 2);
 /// ```
 pub trait Keeps {
@@ -31,6 +32,10 @@ pub trait Keeps {
     /// The number of failures of the disk.
     ghost faults: { Self → ℕ };
 
+    /// Nothing of what is kept is in the log beside the file: the file alone has all of it. Memory
+    /// has no log.
+    ghost is_checkpointed: { Self → Type 0 };
+
     /// Keeps the changes, all or none, before it returns. From `Ok` on a crash leaves them. After
     /// an error it leaves all of them or none, and nothing more may be committed: open the store
     /// again.
@@ -42,6 +47,18 @@ pub trait Keeps {
             (kept self.new ≡ committed (kept self.old) (map lent changes.now)) }
         ensures either { is_clean self.new → OnErr result
             (BeforeOrAfter (kept self.old) (map lent changes.now) (may_leave self.new)) }
+        ensures cause { is_clean self.new → HasCause (faults self.old) (faults self.new) result };
+
+    /// Moves the log into the file, so that a copy of the file alone has all that is kept. Before
+    /// and after, and after an error too, a crash leaves exactly that. After an error nothing more
+    /// may be committed: open the store again.
+    fn checkpoint(&mut self) -> Result<(), StoreFault>
+        requires settled { is_settled self.old }
+        ensures settled { OnOk result (is_settled self.new) }
+        ensures clean { is_clean self.new → is_clean self.old }
+        ensures moved { is_clean self.new → OnOk result (is_checkpointed self.new) }
+        ensures kept { is_clean self.new → OnOk result (kept self.new ≡ kept self.old) }
+        ensures stays { is_clean self.new → Only (kept self.old) (may_leave self.new) }
         ensures cause { is_clean self.new → HasCause (faults self.old) (faults self.new) result };
 
     /// While the store is settled, a crash leaves what is kept, and nothing else.

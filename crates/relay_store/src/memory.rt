@@ -10,7 +10,7 @@ use crate::keeps::Keeps;
 use std::alloc::{AllocError, Global};
 
 /// A store in memory. A crash of what it stands for leaves exactly what the last commit left. It
-/// fails only for memory, and a commit that fails changes nothing.
+/// fails only for memory, and a commit that fails changes nothing. A checkpoint does nothing.
 ///
 /// ```
 /// let mut store = MemoryStore::new(alloc, 7);
@@ -90,9 +90,15 @@ impl Keeps for MemoryStore {
 
     ghost faults = { λ store. 0 };
 
+    ghost is_checkpointed = { λ store. ⊤ };
+
     fn commit(&mut self, changes: &[Change<&str>]) -> Result<(), StoreFault> {
         let mut more = copied(self.alloc, changes)?;
         Ok(self.changes.append(&mut more)?)
+    }
+
+    fn checkpoint(&mut self) -> Result<(), StoreFault> {
+        Ok(())
     }
 
     ghost durable = { λ store _ _. (λ left is. is, refl) };

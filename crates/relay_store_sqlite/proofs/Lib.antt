@@ -1,3 +1,4 @@
+pub mod Checkpoints
 pub mod Commits
 pub mod Cursors
 pub mod Puts

@@ -1,3 +1,4 @@
+pub mod Checkpoint
 pub mod Durable
 pub mod Fault
 pub mod Rows

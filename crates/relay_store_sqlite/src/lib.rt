@@ -8,9 +8,12 @@
 //! hub.
 #![tactic(auto)]
 
+mod checkpoint;
 mod fault;
 mod file;
+mod header;
 mod live;
+mod log_beside;
 mod opening;
 mod read;
 mod remove;
@@ -18,6 +21,8 @@ mod row;
 mod store;
 mod write;
 
-pub use file::open;
+pub use checkpoint::Checkpoint;
+pub use file::{close_read, open};
+pub use log_beside::LogBefore;
 pub use opening::{Opened, adopt};
 pub use store::SqliteStore;

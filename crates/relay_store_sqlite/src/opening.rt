@@ -6,6 +6,7 @@ ghost use Rattle.relay_store.specs.Texts.{owned};
 ghost use Rattle.relay_store_sqlite.specs.Rows.{kept_in};
 ghost use Rattle.relay_store_sqlite.specs.Table.{IsReady};
 
+use crate::log_beside::LogBefore;
 use crate::store::SqliteStore;
 use relay_store::{Change, StoreFault};
 use sqlite::{Alter, Connection, Error, ErrorCode, params};
@@ -67,10 +68,16 @@ fn has_tables<S: Alter>(conn: &mut Connection<S>) -> Result<bool, Error> {
     Ok(known == 2 && number(conn, "SELECT count(*) FROM sqlite_schema")? == 2)
 }
 
-/// Makes the tables in an empty database, or checks those that there are.
-fn prepare<S: Alter>(conn: &mut Connection<S>, epoch: i64) -> Result<(), StoreFault> {
-    if number(conn, "SELECT count(*) FROM sqlite_schema").map_err(statement_fault)? == 0 {
-        return make(conn, epoch).map_err(statement_fault);
+/// Returns whether the database has no tables.
+fn is_empty<S: Alter>(conn: &mut Connection<S>) -> Result<bool, StoreFault> {
+    let tables = number(conn, "SELECT count(*) FROM sqlite_schema").map_err(statement_fault)?;
+    Ok(tables == 0)
+}
+
+/// Makes the tables in an empty database, if it is to have an epoch, or checks those that it has.
+fn prepare<S: Alter>(conn: &mut Connection<S>, new_epoch: Option<u64>) -> Result<(), StoreFault> {
+    if is_empty(conn)? {
+        return begin(conn, new_epoch);
     }
     let version = number(conn, "SELECT version FROM meta WHERE id = 1").map_err(statement_fault)?;
     if version != VERSION {
@@ -82,6 +89,17 @@ fn prepare<S: Alter>(conn: &mut Connection<S>, epoch: i64) -> Result<(), StoreFa
     Ok(())
 }
 
+/// Makes the tables in an empty database, if it is to have an epoch.
+fn begin<S: Alter>(conn: &mut Connection<S>, new_epoch: Option<u64>) -> Result<(), StoreFault> {
+    let Some(epoch) = new_epoch else {
+        return Err(StoreFault::NotAStore);
+    };
+    let Ok(epoch) = i64::try_from(epoch) else {
+        return Err(StoreFault::TooBig);
+    };
+    make(conn, epoch).map_err(statement_fault)
+}
+
 /// A store that was opened, and what it keeps.
 #[derive(Drop)]
 pub struct Opened<S: Alter> {
@@ -90,23 +108,29 @@ pub struct Opened<S: Alter> {
     pub epoch: u64,
     /// The changes that make what is kept out of an empty store.
     pub changes: Vec<Change<String>>,
+    /// The log that was beside its file before the open.
+    pub log_before: LogBefore,
 }
 
 /// Takes a database as a store. An empty one gets the tables and the epoch `new_epoch`, in one
-/// transaction. Nothing is written to one that is refused: `NotAStore` if it is another program's,
-/// `OtherVersion` if its tables have another version, `Damaged` if a row stands for no change.
+/// transaction; if that is none, it is refused. Nothing is written to one that is refused, and its
+/// trees come back: `NotAStore` if it is another program's, `OtherVersion` if its tables have
+/// another version, `Damaged` if a row stands for no change.
 ///
 /// ```
 /// let conn = Connection::open_in_memory(alloc).ok()?;
-/// let mut opened = adopt(alloc, conn, 7).ok()?;
+/// let mut opened = adopt(alloc, conn, Some(7)).ok()?;
 /// opened.store.commit(&[Change::RaiseFloor { revision: 12 }]).ok()?;
+/// opened.store.checkpoint().ok()?;
 /// assert!(rt; opened.epoch == 7 && opened.changes.is_empty());
+/// let empty = Connection::open_in_memory(alloc).ok()?;
+/// assert!(rt; matches!(adopt(alloc, empty, None).err(), Some((StoreFault::NotAStore, _))));
 /// ```
 pub fn adopt<S: Alter + Drop>(
     alloc: Global,
     mut conn: Connection<S>,
-    new_epoch: u64,
-) -> Result<Opened<S>, StoreFault>
+    new_epoch: Option<u64>,
+) -> Result<Opened<S>, (StoreFault, S)>
     ensures settled { IfOk result (λ o. IsClean (S.Store.view o.store.store) →
         IsReady (S.Store.view o.store.store) o.store.next) }
     ensures epoch { IfOk result (λ o. IsClean (S.Store.view o.store.store) →
@@ -115,14 +139,18 @@ pub fn adopt<S: Alter + Drop>(
         kept_in (S.Store.view o.store.store).committed
         ≡ committed (begun o.epoch) (map owned o.changes.items)) }
 {
-    let Ok(new_epoch) = i64::try_from(new_epoch) else {
-        return Err(StoreFault::TooBig);
-    };
-    prepare(&mut conn, new_epoch)?;
-    let (store, epoch, changes) = SqliteStore::over(alloc, conn.into_store())?;
-    Ok(Opened {
-        store,
-        epoch,
-        changes,
-    })
+    let prepared = prepare(&mut conn, new_epoch);
+    let store = conn.into_store();
+    if let Err(fault) = prepared {
+        return Err((fault, store));
+    }
+    match SqliteStore::over(alloc, store) {
+        Ok((store, epoch, changes)) => Ok(Opened {
+            store,
+            epoch,
+            changes,
+            log_before: LogBefore::None,
+        }),
+        Err(refused) => Err(refused),
+    }
 }
