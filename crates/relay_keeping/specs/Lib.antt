@@ -1,1 +1,11 @@
+pub mod Listing
 pub mod Stood
+pub mod Mirrored
+pub mod Clients
+pub mod Begun
+pub mod Noted
+pub mod News
+pub mod Trailing
+pub mod Keeper
+pub mod LeftWills
+pub mod Wills

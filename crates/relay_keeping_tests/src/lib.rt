@@ -1,5 +1,9 @@
-//! Tests of rooms that are kept in a store and taken up again.
+//! Tests of rooms and wills that are kept in a store and taken up again.
 #![tactic(auto)]
 
 #[cfg(test)]
+mod kept;
+#[cfg(test)]
 mod rooms;
+#[cfg(test)]
+mod wills;

@@ -1,16 +1,9 @@
-//! A hub whose rooms are kept in memory, through restarts.
-use relay_access::Access;
-use relay_hub::{Hub, HubConfig};
-use relay_keeping::{RoomStore, take_up};
-use relay_store::{Change, Keeps, MemoryStore};
-use relay_test_stream::{Subject, cut, play};
-use relay_tree::read;
-use relay_view::View;
-use std::alloc::{AllocGlobal, Global};
+//! Rooms that are kept through restarts.
+use crate::kept::begun;
+use relay_test_stream::play;
 use std::test::Fail;
 
-/// `keep` tells how many changes are kept, `texts` which, and `holds` the message of a room's
-/// present document. Each room takes one session's number as it is taken up.
+/// Acts on rooms ([`Kept`](crate::kept::Kept)). Each takes one session's number as it is taken up.
 const ROWS: &str = r#"
 # Nothing happened yet.
 keep => 0
@@ -60,107 +53,15 @@ texts => begin board 0;begin board 1;edit board 3;edit board 4;edit board 5;begi
 restart
 holds third => {"kind":"snapshot","rev":7,"view":[[null]]}
 holds board => nothing
+# A record shows a whole document, at its revision. Any other text is refused.
+takes 4 {"kind":"snapshot","rev":4,"view":[[7]]} => 4
+takes 5 {"kind":"snapshot","rev":4,"view":[[7]]} => the store is damaged
+takes 4 {"kind":"snapshot","rev":4,"view":[[7,8]]} => the store is damaged
+takes 4 {"kind":"snapshot","rev":4,"view":[[7],[8]]} => the store is damaged
+takes 4 {"kind":"snapshot","rev":4,"view":[[]]} => the store is damaged
+takes 4 {"kind":"patch","patch":[],"rev":4} => the store is damaged
+takes 0 {"kind":"snapshot","rev":0,"view":[[7]]} => the store is damaged
 "#;
-
-/// A hub, and the store of its rooms.
-#[derive(Drop)]
-struct Kept {
-    hub: Hub,
-    rooms: RoomStore<MemoryStore>,
-}
-
-/// A hub of at most two rooms.
-fn config() -> HubConfig {
-    HubConfig {
-        rooms: 2,
-        ..HubConfig::new(1, 1, 64, 32)
-    }
-}
-
-/// The words of a change, without its text.
-fn words(alloc: Global, change: &Change<String>) -> Option<String> {
-    let told = match change {
-        Change::Begin { room, revision, .. } => format!(in alloc; "begin {room} {revision};"),
-        Change::Edit { room, revision, .. } => format!(in alloc; "edit {room} {revision};"),
-        Change::End { room } => format!(in alloc; "end {room};"),
-        Change::RaiseFloor { revision } => format!(in alloc; "floor {revision};"),
-        _ => return None,
-    };
-    told.ok()
-}
-
-/// The words of changes.
-fn all_words(alloc: Global, changes: &Vec<Change<String>>) -> Option<String> {
-    let mut all = String::new(alloc);
-    for change in changes {
-        all.push_str(words(alloc, change)?.as_str()).ok()?;
-    }
-    Some(all)
-}
-
-/// A store in memory with the same changes.
-fn copied(alloc: Global, changes: &Vec<Change<String>>) -> Option<MemoryStore> {
-    let mut store = MemoryStore::new(alloc, 1);
-    for change in changes {
-        store.commit(&[change.borrow()]).ok()?;
-    }
-    Some(store)
-}
-
-/// A hub of what changes make of an empty store.
-fn begun(alloc: Global, changes: &Vec<Change<String>>) -> Option<Kept> {
-    let taken = take_up(alloc, config(), copied(alloc, changes)?, changes).ok()?;
-    Some(Kept {
-        hub: taken.hub,
-        rooms: taken.rooms,
-    })
-}
-
-impl Kept {
-    /// The message of the present document of a room.
-    fn holds(&self, alloc: Global, name: &str) -> Option<String> {
-        let whole = View::read(alloc, &read(alloc, r#"[""]"#).ok()?).ok()?;
-        for index in 0..2 {
-            if matches!(self.hub.room_at(index), Some(room) if room.name == name) {
-                let update = self.hub.update_since(alloc, index, None, &whole).ok()??;
-                return Some(update.text);
-            }
-        }
-        String::from_str(alloc, "nothing").ok()
-    }
-}
-
-impl<R: AllocGlobal> Subject<R> for Kept {
-    fn act(&mut self, rt: &R, act: &str) -> Option<String> {
-        let alloc = rt.alloc();
-        let (verb, rest) = cut(act);
-        match verb {
-            "open" => {
-                let opening = self.hub.open(alloc, rest, Access::ReadWrite).ok()?;
-                let session = opening.session;
-                return format!(in alloc; "{session}").ok();
-            }
-            "says" => {
-                let (session, text) = cut(rest);
-                self.hub.receive(alloc, session.parse().ok()?, text).ok()?;
-            }
-            "forget" => {
-                let rev = self.hub.forget(alloc, rest).ok()?;
-                return format!(in alloc; "{rev}").ok();
-            }
-            "keep" => {
-                self.rooms.keep(alloc, &self.hub).ok()?;
-                let count = self.rooms.store().read().ok()?.len();
-                return format!(in alloc; "{count}").ok();
-            }
-            "texts" => return all_words(alloc, &self.rooms.store().read().ok()?),
-            "holds" => return self.holds(alloc, rest),
-            "restart" => *self = begun(alloc, &self.rooms.store().read().ok()?)?,
-            _ => return None,
-        }
-        Some(String::new(alloc))
-    }
-}
 
 #[test]
 fn rooms_are_kept_through_restarts(rt: HostRuntime) -> Result<(), Fail> {

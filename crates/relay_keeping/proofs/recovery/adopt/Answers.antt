@@ -1,11 +1,11 @@
 use Rattle.relay_keeping.proofs.Calls.{by_call}
 use Rattle.relay_keeping.proofs.recovery.adopt.Goals as goal
 
-pub returns-in-Ok : goal.returns-in-Ok
-returns-in-Ok c = by_call _ _ c.adopt.ensures.stands
+pub returns-in-Ok-clause-called : goal.returns-in-Ok-clause-called
+returns-in-Ok-clause-called c = by_call _ _ c.adopt.ensures.stands
 
-pub returns-in-Err-NoMemory : goal.returns-in-Err-NoMemory
-returns-in-Err-NoMemory c = by_call _ _ c.adopt.ensures.stands
+pub returns-in-Err-NoMemory-clause-called : goal.returns-in-Err-NoMemory-clause-called
+returns-in-Err-NoMemory-clause-called c = by_call _ _ c.adopt.ensures.stands
 
-pub returns-in-Err : goal.returns-in-Err
-returns-in-Err c = by_call _ _ c.adopt.ensures.stands
+pub returns-in-Err-clause-called : goal.returns-in-Err-clause-called
+returns-in-Err-clause-called c = by_call _ _ c.adopt.ensures.stands
