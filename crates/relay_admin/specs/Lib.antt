@@ -14,4 +14,5 @@ pub mod Asking
 pub mod Outcome
 pub mod Rooms
 pub mod Metric
+pub mod Commits
 pub mod Metrics

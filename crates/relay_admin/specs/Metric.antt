@@ -4,14 +4,16 @@ use Rattle.std.specs.Prelude.{ℕ, List, [], ◌++◌, map, codes, decimal}
 use Rattle.std.specs.Borrow.{Bor}
 use Rattle.std.specs.List.{flat_map}
 use Rattle.relay_admin.specs.declared.metric.Kind.{Kind}
-use Rattle.relay_admin.specs.declared.metric.Kind.TheVariants.{Counter, Gauge}
+use Rattle.relay_admin.specs.declared.metric.Kind.TheVariants.{Counter, Gauge, Histogram}
 use Rattle.relay_admin.specs.declared.metric.Metric.{Metric}
 use Rattle.relay_admin.specs.declared.metric.Values.{Values}
 use Rattle.relay_admin.specs.declared.metric.Values.TheVariants.{One, Micros, Labelled}
+use Rattle.relay_admin.specs.declared.metric.Values.TheVariants.{Buckets}
 
 abbrev pub kind_name : Kind → List ℕ
 kind_name Counter = codes "counter"
 kind_name Gauge = codes "gauge"
+kind_name Histogram = codes "histogram"
 
 -- the lines before the values
 abbrev pub family_text : List ℕ → Kind → List ℕ → List ℕ
@@ -52,6 +54,19 @@ abbrev pub labelled_counter : List ℕ → List ℕ → List ℕ → List (List 
 labelled_counter name help label counts =
     family_text name Counter help ++ flat_map (λ count. labelled_text name label count) counts
 
+-- the lines of a histogram: those of its buckets, by their upper bounds, and those of the sum of
+-- the values, in millionths, and of their number
+abbrev pub buckets_text : List ℕ → List (List ℕ × ℕ) → ℕ → ℕ → List ℕ
+buckets_text name counts micros all =
+    (flat_map (λ count. labelled_text (name ++ codes "_bucket") (codes "le") count) counts
+    ++ value_text (name ++ codes "_sum") micros (codes "e-6"))
+    ++ value_text (name ++ codes "_count") all []
+
+-- a histogram
+abbrev pub histogram : List ℕ → List ℕ → List (List ℕ × ℕ) → ℕ → ℕ → List ℕ
+histogram name help counts micros all =
+    family_text name Histogram help ++ buckets_text name counts micros all
+
 -- a word and its value, as the code has them
 abbrev pub word_and_count : Bor (List ℕ) × ℕ → List ℕ × ℕ
 word_and_count pair = (pair.0.now, pair.1)
@@ -62,6 +77,8 @@ values_text name (One value) = value_text name value []
 values_text name (Micros value) = value_text name value (codes "e-6")
 values_text name (Labelled label counts) =
     flat_map (λ count. labelled_text name label.now count) (map word_and_count counts.now)
+values_text name (Buckets counts micros all) =
+    buckets_text name (map word_and_count counts.now) micros all
 
 -- a metric, as the code has it
 abbrev pub metric_text : Metric → List ℕ

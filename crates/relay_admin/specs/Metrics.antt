@@ -1,13 +1,14 @@
 -- The numbers of a relay in the text format of Prometheus, a metric after the other.
 use Rattle.std.specs.Prelude.{ℕ, List, [], ◌∷◌, ◌++◌, map, codes}
 use Rattle.std.specs.List.{concat}
+use Rattle.relay_admin.specs.declared.commits.Commits.{Commits}
 use Rattle.relay_admin.specs.declared.metrics.DrawnMessages.{DrawnMessages}
 use Rattle.relay_admin.specs.declared.metrics.EndedBy.{EndedBy}
 use Rattle.relay_admin.specs.declared.metrics.Metrics.{Metrics}
 use Rattle.relay_admin.specs.declared.metrics.RefusedBy.{RefusedBy}
 use Rattle.relay_admin.specs.declared.metrics.SnapshotsBy.{SnapshotsBy}
 use Rattle.relay_admin.specs.Metric.{gauge, gauge_of_micros, counter, counter_of_micros}
-use Rattle.relay_admin.specs.Metric.{labelled_counter, word_and_count}
+use Rattle.relay_admin.specs.Metric.{histogram, labelled_counter, word_and_count}
 
 -- the rooms, the sessions, and what was edited
 abbrev pub hub_text : Metrics → List ℕ
@@ -116,9 +117,28 @@ rounds_text m = concat
     (codes "What the hub's work cost, as it is counted for the connections' credit.") m.hub_cost
     ∷ [])
 
+-- the commits of the store
+abbrev pub commits_text : Commits → List ℕ
+commits_text c = concat
+    (histogram (codes "relay_store_commit_seconds")
+    (codes "How long commits of the store took; all 0 without a store.")
+    ((codes "0.001", c.within_1_ms)
+    ∷ (codes "0.0025", c.within_2500_us)
+    ∷ (codes "0.005", c.within_5_ms)
+    ∷ (codes "0.01", c.within_10_ms)
+    ∷ (codes "0.025", c.within_25_ms)
+    ∷ (codes "0.1", c.within_100_ms)
+    ∷ (codes "0.5", c.within_500_ms)
+    ∷ (codes "1", c.within_1_s)
+    ∷ (codes "+Inf", c.all)
+    ∷ []) c.micros c.all
+    ∷ counter (codes "relay_store_commit_failures_total")
+    (codes "Commits that failed, those refused memory among them; 0 without a store.") c.failed
+    ∷ [])
+
 -- the whole text
 abbrev pub metrics_text : Metrics → List ℕ
 metrics_text m =
-    ((((((hub_text m ++ weights_text m) ++ connections_text m) ++ refused_text m.refused)
+    (((((((hub_text m ++ weights_text m) ++ connections_text m) ++ refused_text m.refused)
     ++ ended_text m.ended) ++ replies_text m.drawn) ++ updates_text m.drawn)
-    ++ rounds_text m
+    ++ rounds_text m) ++ commits_text m.commits

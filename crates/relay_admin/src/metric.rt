@@ -2,7 +2,7 @@
 ghost use Rattle.std.specs.Prelude.{◌≡◌, ◌++◌, map, OnOk, string_bytes};
 ghost use Rattle.std.specs.List.{flat_map};
 ghost use Rattle.relay_admin.specs.Metric.{kind_name, value_text, labelled_text, word_and_count};
-ghost use Rattle.relay_admin.specs.Metric.{values_text, metric_text};
+ghost use Rattle.relay_admin.specs.Metric.{buckets_text, values_text, metric_text};
 
 use std::alloc::{AllocError, Global};
 
@@ -23,6 +23,8 @@ pub(crate) enum Kind {
     Counter,
     /// It rises and falls.
     Gauge,
+    /// It counts by size, and adds up.
+    Histogram,
 }
 
 /// The values of a metric.
@@ -33,6 +35,15 @@ pub(crate) enum Values<'a> {
     Micros(u64),
     /// One for each word of a label: the name of the label, and each word with its value.
     Labelled(&'static str, &'a [(&'static str, u64)]),
+    /// A histogram.
+    Buckets {
+        /// Each upper bound, with the number of values that are not above it.
+        counts: &'a [(&'static str, u64)],
+        /// The sum of the values, in millionths.
+        micros: u64,
+        /// The number of values.
+        all: u64,
+    },
 }
 
 impl Kind {
@@ -42,6 +53,7 @@ impl Kind {
         match self {
             Kind::Counter => "counter",
             Kind::Gauge => "gauge",
+            Kind::Histogram => "histogram",
         }
     }
 }
@@ -91,7 +103,32 @@ fn write_values(
         Values::One(value) => write_value(alloc, text, name, value, ""),
         Values::Micros(value) => write_value(alloc, text, name, value, "e-6"),
         Values::Labelled(label, counts) => write_counts(alloc, text, name, label, counts),
+        Values::Buckets {
+            counts,
+            micros,
+            all,
+        } => write_buckets(alloc, text, name, counts, micros, all),
     }
+}
+
+/// The lines of a histogram: its buckets, the sum in millionths, and the number of values.
+fn write_buckets(
+    alloc: Global,
+    text: &mut String,
+    name: &str,
+    counts: &[(&str, u64)],
+    micros: u64,
+    all: u64,
+) -> Result<(), AllocError>
+    ensures { OnOk result (string_bytes text.new ≡ string_bytes text.old
+        ++ buckets_text name.now (map word_and_count counts.now) micros all) }
+{
+    let bucket = format!(in alloc; "{name}_bucket")?;
+    write_counts(alloc, text, bucket.as_str(), "le", counts)?;
+    let sum = format!(in alloc; "{name}_sum")?;
+    write_value(alloc, text, sum.as_str(), micros, "e-6")?;
+    let count = format!(in alloc; "{name}_count")?;
+    write_value(alloc, text, count.as_str(), all, "")
 }
 
 /// The line of a value without a label, with its exponent, if it has one.

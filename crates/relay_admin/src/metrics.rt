@@ -2,10 +2,11 @@
 ghost use Rattle.std.specs.Prelude.{◌≡◌, ◌++◌, IfOk, OnOk, string_bytes};
 ghost use Rattle.relay_admin.specs.Metrics.{hub_text, weights_text, connections_text, refused_text};
 ghost use Rattle.relay_admin.specs.Metrics.{ended_text, replies_text, updates_text, rounds_text};
-ghost use Rattle.relay_admin.specs.Metrics.{metrics_text};
+ghost use Rattle.relay_admin.specs.Metrics.{commits_text, metrics_text};
 
-use crate::metric::Kind::{Counter, Gauge};
-use crate::metric::Values::{Labelled, Micros, One};
+use crate::commits::Commits;
+use crate::metric::Kind::{Counter, Gauge, Histogram};
+use crate::metric::Values::{Buckets, Labelled, Micros, One};
 use crate::metric::{Metric, write_metric, write_metrics};
 use std::alloc::{AllocError, Global};
 
@@ -43,6 +44,7 @@ pub struct Metrics<'a> {
     pub longest_round: u64,
     /// The cost of the hub's work by its own count, in microseconds.
     pub hub_cost: u64,
+    pub commits: Commits,
 }
 
 /// The number of handshakes that were refused, by the status.
@@ -123,6 +125,7 @@ pub fn metrics_text(alloc: Global, metrics: &Metrics<'_>) -> Result<String, Allo
     write_replies(alloc, &mut text, &metrics.drawn)?;
     write_updates(alloc, &mut text, &metrics.drawn)?;
     write_rounds(alloc, &mut text, metrics)?;
+    write_commits(alloc, &mut text, &metrics.commits)?;
     Ok(text)
 }
 
@@ -373,6 +376,43 @@ fn write_rounds(alloc: Global, text: &mut String, metrics: &Metrics<'_>) -> Resu
             kind: Counter,
             help: "What the hub's work cost, as it is counted for the connections' credit.",
             values: Micros(metrics.hub_cost),
+        },
+    ];
+    write_metrics(alloc, text, &rows)
+}
+
+/// The commits of the store.
+fn write_commits(alloc: Global, text: &mut String, commits: &Commits) -> Result<(), AllocError>
+    ensures { OnOk result (string_bytes text.new
+        ≡ string_bytes text.old ++ commits_text commits.now) }
+{
+    let counts = [
+        ("0.001", commits.within_1_ms),
+        ("0.0025", commits.within_2500_us),
+        ("0.005", commits.within_5_ms),
+        ("0.01", commits.within_10_ms),
+        ("0.025", commits.within_25_ms),
+        ("0.1", commits.within_100_ms),
+        ("0.5", commits.within_500_ms),
+        ("1", commits.within_1_s),
+        ("+Inf", commits.all),
+    ];
+    let rows = [
+        Metric {
+            name: "relay_store_commit_seconds",
+            kind: Histogram,
+            help: "How long commits of the store took; all 0 without a store.",
+            values: Buckets {
+                counts: &counts,
+                micros: commits.micros,
+                all: commits.all,
+            },
+        },
+        Metric {
+            name: "relay_store_commit_failures_total",
+            kind: Counter,
+            help: "Commits that failed, those refused memory among them; 0 without a store.",
+            values: One(commits.failed),
         },
     ];
     write_metrics(alloc, text, &rows)

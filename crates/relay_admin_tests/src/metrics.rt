@@ -1,5 +1,5 @@
 //! Tests of the metrics.
-use relay_admin::{DrawnMessages, EndedBy, Metrics, RefusedBy, SnapshotsBy, metrics_text};
+use relay_admin::{Commits, DrawnMessages, EndedBy, Metrics, RefusedBy, SnapshotsBy, metrics_text};
 
 /// A relay whose every number is another one.
 const NUMBERS: Metrics<'static> = Metrics {
@@ -53,6 +53,19 @@ const NUMBERS: Metrics<'static> = Metrics {
     rounds: 25,
     longest_round: 1_500_000,
     hub_cost: 2_500_000,
+    commits: Commits {
+        within_1_ms: 41,
+        within_2500_us: 42,
+        within_5_ms: 43,
+        within_10_ms: 44,
+        within_25_ms: 45,
+        within_100_ms: 46,
+        within_500_ms: 47,
+        within_1_s: 48,
+        all: 49,
+        micros: 3_500_000,
+        failed: 50,
+    },
 };
 
 /// Their text.
@@ -145,6 +158,22 @@ relay_longest_round_seconds 1500000e-6
 # HELP relay_hub_cost_seconds_total What the hub's work cost, as it is counted for the connections' credit.
 # TYPE relay_hub_cost_seconds_total counter
 relay_hub_cost_seconds_total 2500000e-6
+# HELP relay_store_commit_seconds How long commits of the store took; all 0 without a store.
+# TYPE relay_store_commit_seconds histogram
+relay_store_commit_seconds_bucket{le="0.001"} 41
+relay_store_commit_seconds_bucket{le="0.0025"} 42
+relay_store_commit_seconds_bucket{le="0.005"} 43
+relay_store_commit_seconds_bucket{le="0.01"} 44
+relay_store_commit_seconds_bucket{le="0.025"} 45
+relay_store_commit_seconds_bucket{le="0.1"} 46
+relay_store_commit_seconds_bucket{le="0.5"} 47
+relay_store_commit_seconds_bucket{le="1"} 48
+relay_store_commit_seconds_bucket{le="+Inf"} 49
+relay_store_commit_seconds_sum 3500000e-6
+relay_store_commit_seconds_count 49
+# HELP relay_store_commit_failures_total Commits that failed, those refused memory among them; 0 without a store.
+# TYPE relay_store_commit_failures_total counter
+relay_store_commit_failures_total 50
 "#;
 
 #[test]
@@ -161,4 +190,38 @@ fn tells_of_no_faults(rt: HostRuntime) {
     let text = metrics_text(rt.alloc(), &numbers).expect(&rt, "memory");
     let part = "\n# TYPE relay_refusals_total counter\n# HELP relay_patches_total ";
     assert!(&rt; text.as_str().contains(part));
+}
+
+/// Times in microseconds: each bound, and one more than it. A bucket has all that are not above its
+/// bound, which is that of the text's `le`, in seconds.
+#[test]
+fn counts_a_commit_in_each_bucket_that_is_not_below_it(rt: HostRuntime) {
+    let mut commits = Commits::default();
+    for bound in [
+        1_000, 2_500, 5_000, 10_000, 25_000, 100_000, 500_000, 1_000_000,
+    ] {
+        commits = commits.with_commit(bound).with_commit(bound + 1);
+    }
+    let wanted = Commits {
+        within_1_ms: 1,
+        within_2500_us: 3,
+        within_5_ms: 5,
+        within_10_ms: 7,
+        within_25_ms: 9,
+        within_100_ms: 11,
+        within_500_ms: 13,
+        within_1_s: 15,
+        all: 16,
+        micros: 3_287_008,
+        failed: 0,
+    };
+    assert_eq!(rt; commits, wanted);
+    let failed = commits.with_failure();
+    assert_eq!(rt;
+        failed,
+        Commits {
+            failed: 1,
+            ..wanted
+        }
+    );
 }
