@@ -1,79 +1,69 @@
 -- A connection whose request has its response asked for that request.
-use Rattle.std.proofs.Common.{◌≡◌, ◌⊎◌, inl, inr, ℕ, List, Option, None, Some, Result, Ok, Err}
-use Rattle.std.proofs.Common.{IfSome, IsTrue, Bool, true, false, ◌||◌, nat_lt, if◌then◌else◌}
-use Rattle.std.proofs.Common.{slice_get, string_bytes, length, drop, get_or, arith, add-zero, refl}
+use Rattle.std.proofs.Common.{◌≡◌, ◌⊎◌, inl, inr, ℕ, List, Option, None, Some}
+use Rattle.std.proofs.Common.{IfSome, IsTrue, Bool, true, false, ◌||◌, Global, String}
+use Rattle.std.proofs.Common.{slice_get, length, drop, get_or, arith, add-zero, refl}
 use Rattle.std.proofs.Common.{sym, subst, ap, ◌∙◌}
 use Rattle.std.proofs.lemmas.List.{length-drop, get_or-drop}
 use Rattle.std.proofs.lemmas.Option.{slice_get_within, get_or_from_slice_get}
+use Rattle.relay_admin.specs.Admitted.{IsAdmitted}
 use Rattle.relay_admin.specs.Route.{request}
-use Rattle.relay_admin.specs.declared.admin_fault.AdminFault.TheVariants.{TooLong}
-use Rattle.relay_admin.specs.declared.reading.TheConstants.{MAX_HEAD}
-use Rattle.relay_admin.specs.Verdict.{accept, refuse, more, verdict_before_head}
 use Rattle.relay_admin.specs.declared.answer.Ask.{Ask}
 use Rattle.relay_admin.specs.declared.answer.Ask.TheVariants as ask
 use Rattle.relay_admin.specs.declared.request.AdminRequest.{AdminRequest}
 use Rattle.relay_admin.specs.declared.request.AdminRequest.TheVariants.{Open, Stop, Health, Metrics}
 use Rattle.relay_admin.specs.declared.request.AdminRequest.TheVariants.{Rooms, Wanted}
-use Rattle.relay_operator.specs.Connection.{Answers, AnswersIfWhole, Receives}
-use Rattle.relay_operator.specs.Port.{AsksAt, BeginsWith, SomeAsks, is_stop, is_open}
-use Rattle.relay_access.specs.RoomName.{is_room_name}
-use Rattle.relay_operator.specs.RoomRequest.{asked_of_room}
-use Rattle.relay_operator.specs.declared.room_request.RoomRequest.TheVariants as room
+use Rattle.relay_operator.specs.Connection.{Hears, Turns, TurnsBy}
+use Rattle.relay_operator.specs.Port.{AsksAt, SomeAsks, is_stop, is_open}
+use Rattle.relay_operator.specs.Request.{Answers, BeginsWith, asked_by}
 use Rattle.relay_operator.specs.declared.admin_connection.AdminConnection.{AdminConnection}
+use Rattle.relay_operator.specs.declared.admin_connection.Heard.TheVariants as heard
 use Rattle.relay_operator.specs.declared.room_request.RoomRequest.{RoomRequest}
-
--- the answer to an unfinished head accepts nothing
-accepts_no_part : (r : AdminRequest) (bytes : List ℕ)
-    → accept (request r) ≡ verdict_before_head bytes → ⊥
-accepts_no_part r bytes same =
-    elim (nat_lt MAX_HEAD (length bytes))
-    as (λ long. accept (request r) ≡ (if long then refuse TooLong else more) → ⊥)
-    [ true ↦ λ e. cc e | false ↦ λ e. cc e ] same
+use Rattle.relay_operator.proofs.Heads.{has_head}
+use Rattle.relay_operator.proofs.Noting.{given_back}
 
 -- bytes whose answer is a request begin with a head that asks for it
 begins_with : (bytes : List ℕ) (r : AdminRequest) → Answers bytes (ask.Request r)
-    → BeginsWith r bytes
+    → BeginsWith (λ head. IsAdmitted head (request r)) bytes
 begins_with bytes r is = record {
-  has_head = λ none.
-      elim (is.no_head none)
-      [ inl unfinished ↦ accepts_no_part r bytes unfinished.1 | inr never ↦ cc never.1 ];
-  admitted = λ head rest reads. (is.admits head rest (request r) reads).0 refl;
+  has_head = has_head bytes (ask.Request r) (request r) is refl;
+  says = λ head rest reads. (is.admits head rest (request r) reads).0 refl;
 }
 
--- what asks nothing of a room is passed on as it is
-passed_on : (answer given : Ask) → asked_of_room answer ≡ Err given → given ≡ answer
-passed_on ask.More given same = cc
-passed_on (ask.Request r) given same = cc
-passed_on (ask.Refused fault) given same = cc
-passed_on (ask.Forget name) given same = cc
-passed_on (ask.Exclude name) given same = cc
-passed_on (ask.Read part) given same = cc
-passed_on (ask.Edit edit) given same = cc
-passed_on (ask.Admit name) given same =
-    let passed : Bool → Result RoomRequest Ask =
-    λ is_name. if is_name then Ok (room.Open name) else Err (ask.Admit name) in
-    elim (is_room_name (string_bytes name))
-    as (λ is_name. passed is_name ≡ Err given → given ≡ ask.Admit name)
-    [ true ↦ λ e. cc e | false ↦ λ e. cc e ] same
-
 module _ {S : Type 0} (remaining : S → Option (List ℕ)) where
+  heard_by : (contents : S → Option (List ℕ)) (reply : Option (String Global))
+      (whole asked : Option RoomRequest) (answer : Ask) (old new : AdminConnection S)
+      → TurnsBy reply whole asked remaining contents (heard.Answer answer) old new
+      → Hears remaining (Some answer) old new
+  heard_by contents (Some reply) whole asked answer old new turns = absurd turns
+  heard_by contents None (Some whole) asked answer old new turns = absurd turns
+  heard_by contents None None (Some asked) answer old new turns = absurd turns
+  heard_by contents None None None answer old new turns = turns
+
+  -- a connection whose turn gives an answer was heard
+  pub heard_in : (contents : S → Option (List ℕ)) (answer : Ask) (old new : AdminConnection S)
+      → Turns remaining contents (heard.Answer answer) old new
+      → Hears remaining (Some answer) old new
+  heard_in contents answer old new turns =
+      heard_by contents old.reply (asked_by old.request) old.request.asked answer old new turns
+
   pub asks_served : (connections : List (AdminConnection S)) (index : ℕ)
-      (c heard : AdminConnection S) (answer given : Ask) (served : Option AdminRequest)
-      → slice_get connections index ≡ Some c → Receives remaining c heard
-      → AnswersIfWhole heard.received.items answer → asked_of_room answer ≡ Err given
+      (c now : AdminConnection S) (given : Ask) (served : Option AdminRequest)
+      → slice_get connections index ≡ Some c → Hears remaining (Some given) c now
       → IfSome served (λ r. given ≡ ask.Request r) → AsksAt remaining index served connections
-  asks_served connections index c heard answer given None at received answers passed is = tt
-  asks_served connections index c heard answer given (Some r) at received answers passed is =
-      let same : answer ≡ ask.Request r = sym (passed_on answer given passed) ∙ is in
-      let all : Answers heard.received.items (ask.Request r) =
-      subst (AnswersIfWhole heard.received.items) same answers in (
+  asks_served connections index c now given None at hears is = tt
+  asks_served connections index c now given (Some r) at hears is =
+      let all : Answers hears.read.request.bytes (ask.Request r) =
+      subst (Answers hears.read.request.bytes) is
+      (given_back given hears.read.request now.request hears.notes).0 in (
         c,
         at,
         record {
-          taken = received.taken;
-          rest = remaining heard.stream;
-          first = received.first;
-          head = subst (BeginsWith r) received.received (begins_with heard.received.items r all);
+          taken = hears.receives.taken;
+          rest = remaining hears.read.stream;
+          first = hears.receives.first;
+          head =
+              subst (BeginsWith (λ head. IsAdmitted head (request r))) hears.receives.received
+              (begins_with hears.read.request.bytes r all);
         },
       )
 

@@ -1,9 +1,11 @@
-pub mod Answering
 pub mod Asking
 pub mod Giving
+pub mod Heads
 pub mod Holding
 pub mod Moving
+pub mod Noting
 pub mod Responding
 pub mod Rows
 pub mod Seen
+pub mod Turning
 pub mod Visits

@@ -5,8 +5,15 @@ use Rattle.std.proofs.Common.{string_bytes, Global, String}
 use Rattle.std.proofs.KnownBytes.{Appends-trans, Appends-nil, Consumes-trans, Consumes-nil}
 use Rattle.std.proofs.lemmas.List.{take-append-drop, drop-drop, drop_min, take_rest}
 use Rattle.std.specs.Io.KnownBytes.{Appends}
+use Rattle.relay_admin.specs.declared.answer.Ask.{Ask}
 use Rattle.relay_operator.specs.declared.admin_connection.AdminConnection.{AdminConnection}
-use Rattle.relay_operator.specs.Connection.{Receives, Sends, Tells, SameButStream, rest_of, unsent}
+use Rattle.relay_operator.specs.declared.admin_connection.Moved.{Moved}
+use Rattle.relay_operator.specs.declared.admin_connection.Moved.TheVariants as moved
+use Rattle.relay_operator.specs.Connection.{ChangesIfMoved, Hears, Receives, SameButStream, Sends}
+use Rattle.relay_operator.specs.Connection.{Tells, rest_of, unsent}
+use Rattle.relay_admin.specs.declared.answer.Ask.TheVariants.{More}
+use Rattle.relay_operator.specs.Request.{Notes, Request}
+use Rattle.relay_operator.proofs.Noting.{given_back}
 
 -- what a write took of the rest of a response, and what is left of it
 next_part : (bytes : List ℕ) (had from len sent : ℕ) → from ≡ min had (length bytes)
@@ -17,6 +24,14 @@ next_part bytes had from len sent at grown =
     ∙ ap (λ l. take len (drop from bytes) ++ l)
     (drop-drop len from bytes ∙ ap (λ n. drop n bytes) (sym grown))
 
+-- nothing of a request changed
+pub changes_not : (what : Moved) (r : Request) → ChangesIfMoved what r r
+changes_not (moved.Bytes len) r = tt
+changes_not moved.Nothing r = refl
+changes_not moved.Again r = refl
+changes_not moved.Done r = refl
+changes_not moved.Failed r = refl
+
 module _ {S : Type 0} where
   -- it received nothing
   pub receives_same : (remaining : S → Option (List ℕ)) (c : AdminConnection S)
@@ -24,7 +39,7 @@ module _ {S : Type 0} where
   receives_same remaining c = record {
     taken = [];
     first = Consumes-nil (remaining c.stream);
-    received = sym (append-nil c.received.items);
+    received = sym (append-nil c.request.bytes);
     asked = refl;
     reply = refl;
     sent = refl;
@@ -40,11 +55,30 @@ module _ {S : Type 0} where
         q.taken p.first q.first;
     received =
         q.received ∙ ap (λ l. l ++ q.taken) p.received
-        ∙ append_assoc a.received.items p.taken q.taken;
+        ∙ append_assoc a.request.bytes p.taken q.taken;
     asked = q.asked ∙ p.asked;
     reply = q.reply ∙ p.reply;
     sent = q.sent ∙ p.sent;
   }
+
+  -- all of it is answered: what is asked of a room is noted, or the answer is given back
+  pub hears : (remaining : S → Option (List ℕ)) (a b c : AdminConnection S) (given : Option Ask)
+      → Receives remaining a b → Notes given b.request c.request
+      → c ≡ record b { request = c.request } → Hears remaining given a c
+  hears remaining a b c given receives notes same = record {
+    read = b;
+    receives = receives;
+    notes = notes;
+    same = same;
+  }
+
+  -- it received a part of a request
+  pub receives_part : (remaining : S → Option (List ℕ)) (a b c : AdminConnection S) (now : Request)
+      → Receives remaining a b → Receives remaining b c → Notes (Some More) c.request now
+      → Receives remaining a (record c { request = now })
+  receives_part remaining a b c now first then notes =
+      subst (λ r. Receives remaining a (record c { request = r }))
+      (sym (given_back More c.request now notes).1) (receives_then remaining a b c first then)
 
   -- it sent nothing
   pub sends_same : (contents : S → Option (List ℕ)) (c : AdminConnection S) → Sends contents c c
@@ -52,8 +86,7 @@ module _ {S : Type 0} where
     part = [];
     next = refl;
     wrote = Appends-nil (contents c.stream);
-    received = refl;
-    asked = refl;
+    request = refl;
     reply = refl;
   }
 
@@ -67,8 +100,7 @@ module _ {S : Type 0} where
     wrote =
         Appends-trans (contents a.stream) (contents b.stream) (contents c.stream) p.part q.part
         p.wrote q.wrote;
-    received = q.received ∙ p.received;
-    asked = q.asked ∙ p.asked;
+    request = q.request ∙ p.request;
     reply = q.reply ∙ p.reply;
   }
 
@@ -89,8 +121,7 @@ module _ {S : Type 0} where
     wrote =
         subst (λ l. Appends (contents c.stream) (contents next) (take len l))
         (take_rest bytes from) wrote;
-    received = refl;
-    asked = refl;
+    request = refl;
     reply = refl;
   }
 

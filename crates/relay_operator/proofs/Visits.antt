@@ -1,9 +1,12 @@
 -- The responses to requests for a room, with and without a visit.
-use Rattle.std.proofs.Common.{◌≡◌, ◌↔◌, ℕ, true, List, string_bytes, String, Global, Option}
-use Rattle.std.proofs.Common.{Some, None, IsSome, option_map, Result, Ok, Err, IfOk, sym, ap, subst}
-use Rattle.std.proofs.Common.{◌∙◌}
-use Rattle.relay_admin.specs.Asking.{IsJson}
+use Rattle.std.proofs.Common.{◌≡◌, ◌↔◌, ℕ, true, false, List, take, drop, string_bytes, String}
+use Rattle.std.proofs.Common.{Global, Option, Some, None, IsSome, option_map, Result, Ok, Err, IfOk}
+use Rattle.std.proofs.Common.{sym, ap, subst, ◌∙◌}
+use Rattle.httparse.specs.Grammar.{RequestHead}
+use Rattle.json.specs.Lex.{tokens}
+use Rattle.relay_admin.specs.Asking.{IsJson, edit_tokens}
 use Rattle.relay_admin.specs.Conditions.{is_named}
+use Rattle.relay_admin.specs.Judged.{edit_of, part_of}
 use Rattle.relay_admin.specs.Responses.{response_text}
 use Rattle.relay_admin.specs.declared.response.Response.{Response}
 use Rattle.relay_admin.specs.declared.response.Response.TheVariants as response
@@ -15,12 +18,18 @@ use Rattle.relay_hub.specs.Summary.{Summary, room_named, shown_by, summary_of}
 use Rattle.relay_hub.specs.declared.summary.RoomSummary.{RoomSummary}
 use Rattle.relay_link.specs.declared.visit.Visit.{Visit}
 use Rattle.relay_room.specs.Room.{revision}
-use Rattle.relay_operator.specs.Visiting.{AnswersVisit, IsVisitResponse, PreparesBody, PreparesEdit}
-use Rattle.relay_operator.specs.Visiting.{PreparesIf, PreparesPart, PreparesRead, PreparesReadBy}
-use Rattle.relay_operator.specs.Visiting.{Responds, SaysNotJson, holds_at, revision_named, tag_of}
+use Rattle.relay_operator.specs.Answering.{Prepares}
+use Rattle.relay_operator.specs.Request.{Makes, body_of}
+use Rattle.relay_operator.specs.RoomVisit.{AsksVisit}
+use Rattle.relay_operator.specs.Visiting.{AnswersVisit, IsVisitResponse, PreparesBody}
+use Rattle.relay_operator.specs.Visiting.{PreparesEdit, PreparesIf, PreparesPart, PreparesRead}
+use Rattle.relay_operator.specs.Visiting.{PreparesReadBy, Responds, SaysNotJson, VisitsToRead}
+use Rattle.relay_operator.specs.Visiting.{holds_at, revision_named, tag_of}
 use Rattle.relay_operator.specs.declared.room_request.Prepared.{Prepared}
 use Rattle.relay_operator.specs.declared.room_request.Prepared.TheVariants as prepared
 use Rattle.relay_operator.specs.declared.room_request.RoomRequest.{RoomRequest}
+use Rattle.relay_operator.specs.declared.room_request.RoomRequest.TheVariants as room
+use Rattle.relay_operator.specs.declared.room_request.RoomVisit.{RoomVisit}
 
 -- a text of the response by a visit
 pub is_visit_response : {E : Type 0} (hub : State) (request : RoomRequest) (visit : Visit)
@@ -92,3 +101,50 @@ prepares_not_json hub request body text tag reply (Ok (prepared.Visit visit)) is
     says responds = absurd responds
 prepares_not_json hub request body text tag reply (Err fault) is_tag holds none json says responds =
     tt
+
+-- ---- what a head asks
+
+-- a request that comes to a visit is for that visit
+visits_read_by : (room : Option (List ℕ × RoomSessions)) (hub : State) (request : PartRequest)
+    (visit : RoomVisit) → PreparesReadBy room hub request (prepared.Visit visit)
+    → VisitsToRead request (prepared.Visit visit)
+visits_read_by None hub request visit comes = absurd comes
+visits_read_by (Some room) hub request visit comes =
+    let tag = tag_of hub (revision room.1.room) in
+    elim (is_named tag request.if_none_match)
+    as (λ named. PreparesPart named tag request (prepared.Visit visit)
+    → VisitsToRead request (prepared.Visit visit)) [ true ↦ λ h. absurd h | false ↦ λ h. h ] comes
+
+visits_to_edit : (hub : State) (request : EditRequest) (body : List ℕ) (visit : RoomVisit)
+    → PreparesEdit hub request body (prepared.Visit visit)
+    → PreparesBody request body (prepared.Visit visit)
+visits_to_edit hub request body visit comes =
+    let tag = tag_of hub (revision_named (string_bytes request.room) hub) in
+    elim (holds_at hub request tag)
+    as (λ holds. PreparesIf holds tag request body (prepared.Visit visit)
+    → PreparesBody request body (prepared.Visit visit)) [ true ↦ λ h. h | false ↦ λ h. absurd h ]
+    comes
+
+-- a head that makes the request asks for the visit that it comes to
+pub asks_visit : (hub : State) (bytes : List ℕ) (request : RoomRequest) (visit : RoomVisit)
+    → Prepares hub bytes request (prepared.Visit visit) → (head : RequestHead)
+    → Makes request head → AsksVisit visit bytes head
+asks_visit hub bytes (room.Read part) visit comes head makes = (
+  part_of part,
+  makes.0,
+  visits_read_by (room_named (string_bytes part.room) hub.rooms) hub part visit comes,
+)
+asks_visit hub bytes (room.Edit edit) visit comes head makes =
+    let made = visits_to_edit hub edit (body_of edit bytes) visit comes in (
+      edit_of edit,
+      makes.0,
+      (
+        made.1,
+        made.2,
+        subst (λ n. tokens visit.text ≡ edit_tokens None (tokens (take edit.length (drop n bytes))))
+            makes.1 made.3,
+      ),
+    )
+asks_visit hub bytes (room.Open name) visit comes head makes = absurd comes
+asks_visit hub bytes (room.Close name) visit comes head makes = absurd comes
+asks_visit hub bytes (room.Forget name) visit comes head makes = absurd comes

@@ -11,7 +11,9 @@ use Rattle.relay_hub.specs.declared.fault.ForgetFault.{ForgetFault}
 use Rattle.relay_link.specs.declared.entrance_fault.EntranceFault.{EntranceFault}
 use Rattle.relay_link.specs.declared.visit.Visit.{Visit}
 use Rattle.relay_operator.specs.Admission.{admission_response}
-use Rattle.relay_operator.specs.Connection.{Tells, answered, asked_by, asks_for, body_of}
+use Rattle.relay_operator.specs.Connection.{Tells, answered, asks_for}
+use Rattle.relay_operator.specs.Port.{AsksRoomAt}
+use Rattle.relay_operator.specs.Request.{asked_by, body_of}
 use Rattle.relay_operator.specs.Visiting.{IsVisitResponse, PreparesEdit, PreparesRead}
 use Rattle.relay_operator.specs.Visiting.{forgotten_response}
 use Rattle.relay_operator.specs.declared.admin_connection.AdminConnection.{AdminConnection}
@@ -33,13 +35,9 @@ AdmissionOf (room.Close name) (admission.Close given) = string_bytes name ≡ gi
 AdmissionOf request asked = ⊥
 
 -- a request is one that the room of a name is forgotten
-abbrev pub ForgetsRoom : Option RoomRequest → List ℕ → Type 0
-ForgetsRoom (Some (room.Forget name)) given = string_bytes name ≡ given
+abbrev pub ForgetsRoom : RoomRequest → List ℕ → Type 0
+ForgetsRoom (room.Forget name) given = string_bytes name ≡ given
 ForgetsRoom request given = ⊥
-
-abbrev pub AdmitsRoom : Option RoomRequest → Admission → Type 0
-AdmitsRoom (Some request) asked = AdmissionOf request asked
-AdmitsRoom None asked = ⊥
 
 -- the response to a request, by what came of it
 abbrev pub SaysAdmitted : Option RoomRequest → Result (Unit {0}) EntranceFault → List ℕ → Type 0
@@ -55,12 +53,11 @@ abbrev pub SaysVisited : State → Option RoomRequest → Result Visit AllocErro
 SaysVisited hub (Some request) (Ok visit) text = IsVisitResponse hub request visit text
 SaysVisited hub _ _ text = ⊥
 
--- what a request comes to at a hub, by the body that was received
-abbrev pub Prepares : State → List ℕ → Option RoomRequest → Prepared → Type 0
-Prepares hub received (Some (room.Read part)) found = PreparesRead hub part found
-Prepares hub received (Some (room.Edit edit)) found =
-    PreparesEdit hub edit (body_of edit received) found
-Prepares hub received _ found = ⊥
+-- what a request comes to at a hub, by the bytes that were received
+abbrev pub Prepares : State → List ℕ → RoomRequest → Prepared → Type 0
+Prepares hub bytes (room.Read part) found = PreparesRead hub part found
+Prepares hub bytes (room.Edit edit) found = PreparesEdit hub edit (body_of edit bytes) found
+Prepares hub bytes request found = ⊥
 
 module _ {S : Type 0} where
   -- the first of the connections that asks for something of a kind
@@ -69,19 +66,26 @@ module _ {S : Type 0} where
 
   -- what the connection at an index asks of a room, of which all was received
   abbrev pub asked_at : ℕ → List (AdminConnection S) → Option RoomRequest
-  asked_at index connections = option_and_then asked_by (slice_get connections index)
+  asked_at index connections =
+      option_and_then (λ c. asked_by c.request) (slice_get connections index)
+
+  -- the request at an index is for the way into a room, and it is this one
+  abbrev pub AdmitsAt : ℕ → Admission → List (AdminConnection S) → Type 0
+  AdmitsAt index asked connections =
+      (request : RoomRequest) × AsksRoomAt index request connections × AdmissionOf request asked
 
   -- the first that asks for the way into a room asks for this
   abbrev pub FirstAdmits : Admission → List (AdminConnection S) → Type 0
   FirstAdmits asked connections =
       (index : ℕ) × (first_to kind.Admission connections ≡ Some index)
-      × AdmitsRoom (asked_at index connections) asked
+      × AdmitsAt index asked connections
 
   -- the first that asks for a room to be forgotten names this one
   abbrev pub FirstForgets : List ℕ → List (AdminConnection S) → Type 0
   FirstForgets name connections =
-      (index : ℕ) × (first_to kind.Forgetting connections ≡ Some index)
-      × ForgetsRoom (asked_at index connections) name
+      (index : ℕ) × (request : RoomRequest)
+      × (first_to kind.Forgetting connections ≡ Some index)
+      × AsksRoomAt index request connections × ForgetsRoom request name
 
   -- ---- one response
 
@@ -117,14 +121,12 @@ module _ {S : Type 0} where
 
   -- ---- which response
 
-  -- what a connection's request comes to
-  abbrev pub PreparesFor : State → Option (AdminConnection S) → Prepared → Type 0
-  PreparesFor hub (Some c) found = Prepares hub c.received.items (asked_by c) found
-  PreparesFor hub None found = ⊥
-
   -- what the request at an index comes to
-  abbrev pub PreparesAt : State → List (AdminConnection S) → ℕ → Prepared → Type 0
-  PreparesAt hub connections index found = PreparesFor hub (slice_get connections index) found
+  pub record PreparesAt (hub : State) (connections : List (AdminConnection S)) (index : ℕ)
+      (found : Prepared) : Type 0 where
+    pub request : RoomRequest
+    pub asks : AsksRoomAt index request connections
+    pub comes : Prepares hub asks.asker.request.bytes request found
 
   -- the response to the request at an index, which needs no visit
   abbrev pub SaysWithout : State → List (AdminConnection S) → ℕ → List ℕ → Type 0

@@ -1,10 +1,13 @@
 pub mod Counters
+pub mod Request
 pub mod Connection
 pub mod RoomRequest
+pub mod RoomVisit
 pub mod Visiting
 pub mod Admission
 pub mod Numbers
 pub mod Rows
 pub mod Response
 pub mod Port
+pub mod Turning
 pub mod Answering

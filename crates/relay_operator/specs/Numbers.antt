@@ -55,6 +55,7 @@ pub record AreNumbers (view : AdminView) (counters : Counters) (m : Metrics) : T
   pub wills : m.wills ≡ view.wills
   pub rounds : m.rounds ≡ view.rounds
   pub longest_round : m.longest_round ≡ view.longest_round
+  pub commits : m.commits ≡ view.commits
   -- what is counted of its log
   pub opened : m.opened ≡ counters.opened
   pub rejected : m.rejected ≡ counters.rejected

@@ -1,32 +1,27 @@
 -- The connections to the admin port.
 use Rattle.std.specs.Prelude.{◌≡◌, ◌⊎◌, ⊤, ℕ, ◌+◌, nat_lt, Bool, true, false, ◌||◌, if◌then◌else◌}
 use Rattle.std.specs.Prelude.{List, [], ◌∷◌, ◌++◌, Any, length, take, drop, slice_get, string_bytes}
-use Rattle.std.specs.Prelude.{Option, Some, None, option_and_then}
+use Rattle.std.specs.Prelude.{Option, Some, None}
 use Rattle.std.specs.declared.alloc.Global.{Global}
 use Rattle.std.specs.declared.string.String.{String}
 use Rattle.std.specs.Io.KnownBytes.{Consumes}
-use Rattle.httparse.specs.Grammar.{RequestHead, ReadsRequest, HasNoRequest}
+use Rattle.httparse.specs.Grammar.{RequestHead}
 use Rattle.relay_admin.specs.Admitted.{IsAdmitted}
-use Rattle.relay_admin.specs.Route.{request}
-use Rattle.relay_admin.specs.Verdict.{window}
+use Rattle.relay_admin.specs.Route.{Asked, admit, exclude, forget, request}
 use Rattle.relay_admin.specs.declared.request.AdminRequest.{AdminRequest}
 use Rattle.relay_admin.specs.declared.request.AdminRequest.TheVariants.{Open, Stop}
-use Rattle.relay_operator.specs.Connection.{IsFresh, Tells, answered, asked_by}
+use Rattle.relay_operator.specs.Connection.{IsFresh, Tells, answered}
+use Rattle.relay_operator.specs.Request.{BeginsWith, Makes, asked_by}
+use Rattle.relay_operator.specs.RoomVisit.{AsksVisit}
 use Rattle.relay_operator.specs.declared.admission.Admission.{Admission}
 use Rattle.relay_operator.specs.declared.admission.Admission.TheVariants as admission
 use Rattle.relay_operator.specs.declared.room_request.RoomRequest.{RoomRequest}
-use Rattle.relay_operator.specs.declared.room_request.RoomRequest.TheVariants as room
+use Rattle.relay_operator.specs.declared.room_request.RoomVisit.{RoomVisit}
 use Rattle.relay_operator.specs.declared.admin_connection.Found.{Found}
 use Rattle.relay_operator.specs.declared.admin_connection.Found.TheVariants.{More}
 use Rattle.relay_operator.specs.declared.admin_port.AdminTurn.{AdminTurn}
 use Rattle.relay_operator.specs.declared.admin_connection.AdminConnection.{AdminConnection}
 use Rattle.relay_operator.specs.declared.admin_port.TheConstants.{MAX_CONNECTIONS}
-
--- bytes begin with a head, and it is one that asks for this request
-pub record BeginsWith (asked : AdminRequest) (bytes : List ℕ) : Type 0 where
-  pub has_head : HasNoRequest (window bytes) → ⊥
-  pub admitted : (head : RequestHead) (rest : List ℕ) → ReadsRequest (window bytes) head rest
-      → IsAdmitted head (request asked)
 
 -- a connection has more to do
 abbrev pub is_more : Found → Bool
@@ -50,15 +45,20 @@ noted found served turn = record {
   is_stopping = turn.is_stopping || is_stop served;
 }
 
+-- a request for the way into a room, as `relay_admin` says what is asked
+abbrev pub admission_asked : Admission → Asked
+admission_asked (admission.Open name) = admit name.now
+admission_asked (admission.Close name) = exclude name.now
+
 module _ {S : Type 0} where
   -- what a connection received, and the first bytes that its stream has left, begin with a head
-  -- that asks for this request
+  -- that is admitted as this request
   pub record Asks (remaining : S → Option (List ℕ)) (asked : AdminRequest)
       (c : AdminConnection S) : Type 0 where
     pub taken : List ℕ
     pub rest : Option (List ℕ)
     pub first : Consumes (remaining c.stream) rest taken
-    pub head : BeginsWith asked (c.received.items ++ taken)
+    pub head : BeginsWith (λ head. IsAdmitted head (request asked)) (c.request.bytes ++ taken)
 
   -- one of the connections asks for it
   abbrev pub SomeAsks : (S → Option (List ℕ)) → AdminRequest → List (AdminConnection S) → Type 0
@@ -71,25 +71,33 @@ module _ {S : Type 0} where
       (c : AdminConnection S) × (slice_get connections index ≡ Some c) × Asks remaining asked c
   AsksAt remaining index None connections = ⊤
 
-  -- one of them asks this of a room, and the whole request was received
-  abbrev pub SomeWants : RoomRequest → List (AdminConnection S) → Type 0
-  SomeWants asked connections =
-      (index : ℕ) × (option_and_then asked_by (slice_get connections index) ≡ Some asked)
+  -- one of them received bytes that begin with a head of which this holds
+  abbrev pub SomeReceived : (RequestHead → Type 0) → List (AdminConnection S) → Type 0
+  SomeReceived Says connections = Any (λ c. BeginsWith Says c.request.bytes) connections
 
-  -- one of them asks that the room of a name is forgotten
+  -- one of them received a head that is admitted as the request to forget the room of a name
   abbrev pub SomeForgets : List ℕ → List (AdminConnection S) → Type 0
   SomeForgets name connections =
-      (asked : String Global) × (string_bytes asked ≡ name)
-      × SomeWants (room.Forget asked) connections
+      SomeReceived (λ head. IsAdmitted head (forget name)) connections
 
-  -- or that clients may enter a room, or may not
+  -- or as the request that clients may enter a room, or may not
   abbrev pub SomeAdmits : Admission → List (AdminConnection S) → Type 0
-  SomeAdmits (admission.Open name) connections =
-      (asked : String Global) × (string_bytes asked ≡ name.now)
-      × SomeWants (room.Open asked) connections
-  SomeAdmits (admission.Close name) connections =
-      (asked : String Global) × (string_bytes asked ≡ name.now)
-      × SomeWants (room.Close asked) connections
+  SomeAdmits asked connections =
+      SomeReceived (λ head. IsAdmitted head (admission_asked asked)) connections
+
+  -- or as the request for this visit
+  abbrev pub SomeVisits : RoomVisit → List (AdminConnection S) → Type 0
+  SomeVisits visit connections =
+      Any (λ c. BeginsWith (AsksVisit visit c.request.bytes) c.request.bytes) connections
+
+  -- The connection at an index asks this of a room: the whole request was received, and it is the
+  -- one that the head makes with which the bytes received begin.
+  pub record AsksRoomAt (index : ℕ) (asked : RoomRequest) (connections : List (AdminConnection S))
+      : Type 0 where
+    pub asker : AdminConnection S
+    pub there : slice_get connections index ≡ Some asker
+    pub whole : asked_by asker.request ≡ Some asked
+    pub said : BeginsWith (Makes asked) asker.request.bytes
 
   -- only the connection at an index changed
   pub record OnlyAt (index : ℕ) (old new : List (AdminConnection S)) : Type 0 where

@@ -1,15 +1,14 @@
 //! A connection to the admin port: one request, one response.
-ghost use Rattle.std.specs.Prelude.{◌≡◌, ◌≢◌, [], Some, is_some, IfOk, IfSome, OnOk, option_copied};
-ghost use Rattle.std.specs.Prelude.{string_bytes};
+ghost use Rattle.std.specs.Prelude.{◌≡◌, [], is_some, IfErr, IfOk, OnOk};
 ghost use Rattle.std.specs.Io.KnownBytes.{IsAtEnd};
 ghost use Rattle.std.specs.IoError.{error_kind};
-ghost use Rattle.relay_operator.specs.Connection.{AnswersIfWhole, IsFresh, Receives, SameButStream};
-ghost use Rattle.relay_operator.specs.Connection.{Sends, Tells, answered, asked_by, asking};
-ghost use Rattle.relay_operator.specs.Connection.{body_of, missing_by, missing_of, moved_after};
-ghost use Rattle.relay_operator.specs.Connection.{asks_for, unsent};
+ghost use Rattle.relay_operator.specs.Connection.{ChangesIfMoved, HearsSo, IsFresh, Receives};
+ghost use Rattle.relay_operator.specs.Connection.{SameButStream, Sends};
+ghost use Rattle.relay_operator.specs.Connection.{Tells, Turns, Waits, answered, moved_after};
+ghost use Rattle.relay_operator.specs.Connection.{unsent};
 
-use crate::room_request::{Kind, RoomRequest};
-use relay_admin::{Ask, EditRequest, MAX_HEAD, ask};
+use crate::request_buffer::RequestBuffer;
+use relay_admin::{Ask, MAX_HEAD};
 use std::alloc::{AllocError, Global};
 use std::io::{Error, ErrorKind, Read, Write};
 use std::net::{OpenStream, Shutdown};
@@ -30,9 +29,7 @@ const WRITES: u32 = 64;
 #[derive(Drop)]
 pub(crate) struct AdminConnection<S> {
     stream: S,
-    received: Vec<u8>,
-    /// The request that it makes of a room, while that has no response.
-    asked: Option<RoomRequest>,
+    pub(crate) request: RequestBuffer,
     reply: Option<String>,
     /// The number of bytes of the response that were sent.
     sent: usize,
@@ -49,6 +46,15 @@ pub(crate) enum Found {
     More,
     /// The connection is over.
     Over,
+}
+
+/// The result of a connection's turn.
+#[derive(Drop)]
+pub(crate) enum Heard {
+    /// The work that the turn found. Nothing is to be answered now.
+    Found(Found),
+    /// The answer to what was received, which asks nothing of a room that can be.
+    Answer(Ask),
 }
 
 /// The result of one read or one write.
@@ -72,8 +78,7 @@ impl<S: Read + Write + OpenStream + Drop> AdminConnection<S> {
     {
         AdminConnection {
             stream,
-            received: Vec::new(alloc),
-            asked: None,
+            request: RequestBuffer::new(alloc),
             reply: None,
             sent: 0,
             is_shut: false,
@@ -81,7 +86,7 @@ impl<S: Read + Write + OpenStream + Drop> AdminConnection<S> {
     }
 
     /// True if it has its response.
-    pub(crate) fn is_answered(&self) -> bool
+    fn is_answered(&self) -> bool
         ensures { result ≡ is_some self.now.reply }
     {
         self.reply.is_some()
@@ -91,77 +96,35 @@ impl<S: Read + Write + OpenStream + Drop> AdminConnection<S> {
     pub(crate) fn answer(&mut self, reply: String)
         ensures { self.new ≡ answered reply self.old }
     {
-        self.asked = None;
+        self.request.clear_asked();
         self.reply = Some(reply);
         self.sent = 0;
     }
 
-    /// Notes what it asks of a room. Of an edit, the body may have come with the head.
-    pub(crate) fn ask_of_room(&mut self, request: RoomRequest) -> Found
-        ensures { self.new ≡ asking request self.old }
+    /// Gives it a turn: sends what is left of its response; or reads the rest of an edit's body; or
+    /// reads its request. One whose request waits for what comes of it stays as it is.
+    pub(crate) fn turn(&mut self, alloc: Global) -> Result<Heard, AllocError>
+        ensures turns { IfOk result
+            (λ heard. Turns S.remaining S.contents heard self.old self.new) }
+        // No memory is needed then.
+        ensures waits { IfErr result (λ fault. Waits self.old → ⊥) }
     {
-        let found = match &request {
-            RoomRequest::Edit(_) => Found::More,
-            _ => Found::Nothing,
-        };
-        self.asked = Some(request);
-        found
-    }
-
-    /// The request that it makes of a room, while that has no response and all of the request was
-    /// received.
-    pub(crate) fn asked(&self) -> Option<&RoomRequest>
-        ensures { option_copied result ≡ asked_by self.now }
-    {
-        let asked = self.asked.as_ref()?;
-        match asked {
-            RoomRequest::Edit(edit) if self.missing(edit) > 0 => None,
-            _ => Some(asked),
+        if self.is_answered() {
+            return Ok(Heard::Found(self.tell()));
         }
-    }
-
-    /// True if it asks for something of that kind, and the whole request was received.
-    pub(crate) fn asks_for(&self, kind: Kind) -> bool
-        ensures { result ≡ asks_for kind self.now }
-    {
-        match self.asked() {
-            Some(request) => request.is(kind),
-            None => false,
+        if self.request.asked().is_some() {
+            return Ok(Heard::Found(Found::Nothing));
         }
-    }
-
-    /// The number of bytes of an edit's body that are still to be received.
-    fn missing(&self, edit: &EditRequest) -> usize
-        ensures { result ≡ missing_of edit.now self.now.received.items }
-    {
-        let all = edit.head.saturating_add(edit.length as usize);
-        all.saturating_sub(self.received.len())
-    }
-
-    /// The body of an edit, as far as it was received.
-    pub(crate) fn body(&self, edit: &EditRequest) -> &[u8]
-        ensures { result.now ≡ body_of edit.now self.now.received.items }
-    {
-        let received = self.received.as_slice();
-        let end = edit.head.saturating_add(edit.length as usize);
-        let end = end.min(received.len());
-        &received[edit.head.min(end)..end]
-    }
-
-    /// The number of bytes of an edit's body that are still to be received, if it asks for an edit.
-    pub(crate) fn missing_body(&self) -> Option<usize>
-        ensures { result ≡ missing_by self.now.asked self.now.received.items }
-    {
-        match self.asked.as_ref()? {
-            RoomRequest::Edit(edit) => Some(self.missing(edit)),
-            _ => None,
+        match self.request.missing_body() {
+            Some(missing) => Ok(Heard::Found(self.read_body(missing)?)),
+            None => self.hear(alloc),
         }
     }
 
     /// Reads the rest of an edit's body, as much as is there, and no more than a turn may. `Over`
     /// if the stream is over or failed.
     #[tactic(auto, using(crate::proofs::Moving::receives_same, crate::proofs::Moving::receives_then))]
-    pub(crate) fn read_body(&mut self, most: usize) -> Result<Found, AllocError>
+    fn read_body(&mut self, most: usize) -> Result<Found, AllocError>
         ensures { OnOk result (Receives S.remaining self.old self.new) }
     {
         let mut missing = most;
@@ -179,34 +142,42 @@ impl<S: Read + Write + OpenStream + Drop> AdminConnection<S> {
         Ok(Found::More)
     }
 
-    /// Reads until the bytes received say what is asked, or no more are there. `None` if the stream
+    /// Reads until the bytes received say what is asked, or no more are there. `Over` if the stream
     /// is over or failed.
     #[tactic(auto, using(crate::proofs::Moving::receives_same, crate::proofs::Moving::receives_then))]
-    pub(crate) fn hear(&mut self, alloc: Global) -> Result<Option<Ask>, AllocError>
-        ensures receives { OnOk result (Receives S.remaining self.old self.new) }
-        ensures answers { IfOk result
-            (λ heard. IfSome heard (AnswersIfWhole self.new.received.items)) }
+    fn hear(&mut self, alloc: Global) -> Result<Heard, AllocError>
+        ensures { IfOk result (λ heard. HearsSo S.remaining heard self.old self.new) }
     {
         for _read in 0..READS {
             match self.receive()? {
-                Moved::Bytes(_) => {
-                    let asked = ask(alloc, self.received.as_slice())?;
-                    if !matches!(asked, Ask::More) {
-                        return Ok(Some(asked));
-                    }
-                }
-                Moved::Nothing => return Ok(Some(Ask::More)),
+                Moved::Bytes(_) => match self.request.ask(alloc)? {
+                    Some(Ask::More) => {}
+                    Some(answer) => return Ok(Heard::Answer(answer)),
+                    None => return Ok(Heard::Found(self.work_behind_head())),
+                },
+                Moved::Nothing => return Ok(Heard::Found(Found::Nothing)),
                 Moved::Again => {}
-                Moved::Done | Moved::Failed => return Ok(None),
+                Moved::Done | Moved::Failed => return Ok(Heard::Found(Found::Over)),
             }
         }
-        Ok(Some(Ask::More))
+        Ok(Heard::Found(Found::Nothing))
+    }
+
+    /// The work that a new request for a room leaves. Of an edit, the body may have come with the
+    /// head.
+    fn work_behind_head(&self) -> Found {
+        match self.request.missing_body() {
+            Some(_) => Found::More,
+            None => Found::Nothing,
+        }
     }
 
     /// Reads once. Without memory what was read is lost.
-    #[tactic(auto, using(crate::proofs::Moving::receives_same))]
+    #[tactic(auto, using(crate::proofs::Moving::receives_same, crate::proofs::Moving::changes_not))]
     fn receive(&mut self) -> Result<Moved, AllocError>
         ensures receives { OnOk result (Receives S.remaining self.old self.new) }
+        ensures changes { IfOk result
+            (λ moved. ChangesIfMoved moved self.old.request self.new.request) }
         ensures done { IfOk result
             (λ moved. moved ≡ Moved.Done → IsAtEnd (S.remaining self.new.stream)) }
     {
@@ -214,7 +185,7 @@ impl<S: Read + Write + OpenStream + Drop> AdminConnection<S> {
         match self.stream.read(&mut bytes) {
             Ok(0) => Ok(Moved::Done),
             Ok(len) => {
-                self.received.extend_from_slice(&bytes[..len])?;
+                self.request.extend(&bytes[..len])?;
                 Ok(Moved::Bytes(len))
             }
             Err(error) => Ok(after(&error)),

@@ -2,12 +2,13 @@
 //! clients in, and stops it.
 ghost use Rattle.std.specs.Prelude.{◌≡◌, ◌<◌, ◌≤◌, ◌+◌, ◌^◌, ◌⊎◌, IfSome, IsTrue, [], drop};
 ghost use Rattle.std.specs.Prelude.{IfNone, IfOk, None, false, option_copied, string_bytes};
-ghost use Rattle.std.specs.Prelude.{vec_len};
+ghost use Rattle.std.specs.Prelude.{is_some, take, vec_len};
 ghost use Rattle.std.specs.List.{remove};
 ghost use Rattle.relay_admin.specs.declared.request.AdminRequest.TheVariants.{Open, Stop};
+ghost use Rattle.relay_operator.specs.Turning.{request_in};
 ghost use Rattle.relay_operator.specs.declared.admin_port.TheConstants.{MAX_CONNECTIONS};
 
-use crate::admin_connection::{AdminConnection, Found};
+use crate::admin_connection::{AdminConnection, Found, Heard};
 use crate::admin_view::AdminView;
 use crate::admission::Admission;
 use crate::counters::Counters;
@@ -82,9 +83,12 @@ where
     }
 
     ghost use Rattle.relay_operator.specs.Response.{AnswersAsk};
-    ghost use Rattle.relay_operator.specs.Port.{Admits, Answered, AsksAt, Holds, OnlyAt};
-    ghost use Rattle.relay_operator.specs.Port.{SomeAdmits, SomeAsks, SomeForgets};
-    ghost use Rattle.relay_operator.specs.Answering.{AdmitsRoom, AnswersAt, FindsNext, FirstAdmits};
+    ghost use Rattle.relay_operator.specs.Port.{Admits, Answered, AsksAt, AsksRoomAt, Holds};
+    ghost use Rattle.relay_operator.specs.Port.{OnlyAt, SomeAdmits, SomeAsks, SomeForgets};
+    ghost use Rattle.relay_operator.specs.Port.{SomeVisits};
+    ghost use Rattle.relay_operator.specs.Turning.{ServesAll, ServesAt, ServesEach, WaitsNotAt};
+    ghost use Rattle.relay_operator.specs.Turning.{kept_before};
+    ghost use Rattle.relay_operator.specs.Answering.{AdmitsAt, AnswersAt, FindsNext, FirstAdmits};
     ghost use Rattle.relay_operator.specs.Answering.{FirstForgets, GivesAt, PreparesAt};
     ghost use Rattle.relay_operator.specs.Answering.{SaysAdmitted, SaysForgotten, SaysVisited};
     ghost use Rattle.relay_operator.specs.Answering.{asked_at, first_to};
@@ -142,6 +146,9 @@ where
             SomeAsks L.Stream.remaining Stop self.old.connections.items }
         ensures opening { IsTrue result.is_opening →
             SomeAsks L.Stream.remaining Open self.old.connections.items }
+        // Each connection is sent a part of its response, or is read from, or has its response now.
+        ensures serves { ServesEach L.Stream.remaining L.Stream.contents view.now
+            self.old.counters result self.old.connections.items self.new.connections.items }
         ensures counters { self.new.counters ≡ self.old.counters }
     {
         let was_behind = mem::replace(&mut self.is_behind, false);
@@ -156,6 +163,8 @@ where
             SomeAsks L.Stream.remaining Stop self.old.connections.items }
         ensures opening { IsTrue result.is_opening →
             SomeAsks L.Stream.remaining Open self.old.connections.items }
+        ensures serves { ServesAll L.Stream.remaining L.Stream.contents view.now
+            self.old.counters result self.old.connections.items self.new.connections.items }
         ensures counters { self.new.counters ≡ self.old.counters }
     {
         let mut turn = AdminTurn {
@@ -178,6 +187,8 @@ where
         requires { index + 1 < 2 ^ 64 }
         ensures behind { drop result self.new.connections.items
             ≡ drop (index + 1) self.old.connections.items }
+        ensures before { take result self.new.connections.items
+            ≡ kept_before found index self.old.connections.items }
         ensures next { result ≤ index + 1 }
         ensures counters { self.new.counters ≡ self.old.counters }
     {
@@ -198,29 +209,20 @@ where
         view: &AdminView<'_>,
     ) -> (Found, Option<AdminRequest>)
         ensures asks { AsksAt L.Stream.remaining index result.1 self.old.connections.items }
+        ensures serves { (result ≡ (Found.Over, None)) ⊎ ServesAt L.Stream.remaining
+            L.Stream.contents view.now self.old.counters index result
+            self.old.connections.items self.new.connections.items }
+        ensures stays { result.0 ≡ Found.Over → WaitsNotAt index self.old.connections.items }
         ensures others { OnlyAt index self.old.connections.items self.new.connections.items }
         ensures counters { self.new.counters ≡ self.old.counters }
     {
         let Some(connection) = self.connections.get_mut(index) else {
             return (Found::Over, None);
         };
-        if connection.is_answered() {
-            return (connection.tell(), None);
-        }
-        if let Some(missing) = connection.missing_body() {
-            return (connection.read_body(missing).unwrap_or(Found::Over), None);
-        }
-        if connection.asked().is_some() {
-            return (Found::Nothing, None);
-        }
-        let asked = match connection.hear(alloc) {
-            Ok(Some(asked)) => asked,
-            Ok(None) | Err(_) => return (Found::Over, None),
-        };
-        match RoomRequest::of(asked) {
-            Ok(request) => (connection.ask_of_room(request), None),
-            Err(Ask::More) => (Found::Nothing, None),
-            Err(asked) => self.reply_at(alloc, index, &asked, view),
+        match connection.turn(alloc) {
+            Ok(Heard::Found(found)) => (found, None),
+            Ok(Heard::Answer(answer)) => self.reply_at(alloc, index, &answer, view),
+            Err(AllocError) => (Found::Over, None),
         }
     }
 
@@ -234,16 +236,13 @@ where
         view: &AdminView<'_>,
     ) -> (Found, Option<AdminRequest>)
         ensures served { IfSome result.1 (λ request. asked.now ≡ Ask.Request request) }
-        ensures responds { (result ≡ (Found.Over, None)) ⊎ Answered L.Stream.contents index
-            (AnswersAsk view.now self.old.counters asked.now)
-            self.old.connections.items self.new.connections.items }
+        ensures responds { (result ≡ (Found.Over, None)) ⊎ ((result.1 ≡ request_in asked.now)
+            × Answered L.Stream.contents index (AnswersAsk view.now self.old.counters asked.now)
+            self.old.connections.items self.new.connections.items) }
         ensures others { OnlyAt index self.old.connections.items self.new.connections.items }
         ensures counters { self.new.counters ≡ self.old.counters }
     {
-        let served = match asked {
-            Ask::Request(request) => Some(*request),
-            _ => None,
-        };
+        let served = request_in(asked);
         let reply = view.answer(alloc, &self.counters, asked);
         match (self.connections.get_mut(index), reply) {
             (Some(connection), Ok(reply)) => {
@@ -256,7 +255,7 @@ where
 
     /// The request of the oldest connection that asks for a room to be opened or closed.
     pub fn next_admission(&self) -> Option<Admission<'_>>
-        // A room is named only if a connection asks for it to be opened or closed.
+        // A room is named only if a connection received a head that asks for it.
         ensures some { IfSome result (λ asked. SomeAdmits asked self.now.connections.items) }
         ensures first { IfSome result (λ asked. FirstAdmits asked self.now.connections.items) }
         ensures none { IfNone result
@@ -267,19 +266,21 @@ where
 
     /// The request that the connection at an index makes of a room, while that has no response.
     fn asked_at(&self, index: usize) -> Option<&RoomRequest>
-        ensures { option_copied result ≡ asked_at index self.now.connections.items }
+        ensures is { option_copied result ≡ asked_at index self.now.connections.items }
+        // The bytes that were received make it.
+        ensures asks { IfSome result
+            (λ request. AsksRoomAt index request.now self.now.connections.items) }
     {
         match self.connections.get(index) {
-            Some(connection) => connection.asked(),
+            Some(connection) => connection.request.asked(),
             None => None,
         }
     }
 
     /// The request at an index, if it is one for the way into a room.
     fn admission_at(&self, index: usize) -> Option<Admission<'_>>
-        ensures some { IfSome result (λ asked. SomeAdmits asked self.now.connections.items) }
         ensures at { IfSome result
-            (λ asked. AdmitsRoom (asked_at index self.now.connections.items) asked) }
+            (λ asked. AdmitsAt index asked self.now.connections.items) }
         ensures none { IfNone result
             (is_some_of kind.Admission (asked_at index self.now.connections.items) ≡ false) }
     {
@@ -309,7 +310,7 @@ where
 
     /// The room that the oldest connection names which asks for a room to be forgotten.
     pub fn room_to_forget(&self) -> Option<&str>
-        // A room is named only if a connection asks for it to be forgotten.
+        // A room is named only if a connection received a head that asks for that.
         ensures some { IfSome result (λ room. SomeForgets room.now self.now.connections.items) }
         ensures first { IfSome result
             (λ room. FirstForgets room.now self.now.connections.items) }
@@ -339,7 +340,9 @@ where
     /// connections before it that need none get their responses here; one for whose response there
     /// is no memory is dropped.
     pub fn next_visit(&mut self, alloc: Global, hub: &Hub) -> Option<RoomVisit>
-        ensures { FindsNext L.Stream.contents hub.now self.old.connections.items
+        // A visit is named only if a connection received a head that asks for it.
+        ensures some { IfSome result (λ visit. SomeVisits visit self.new.connections.items) }
+        ensures next { FindsNext L.Stream.contents hub.now self.old.connections.items
             self.new.connections.items result }
     {
         for _ in 0..MAX_CONNECTIONS {
@@ -359,11 +362,13 @@ where
     fn prepare_at(&self, alloc: Global, hub: &Hub, index: usize) -> Result<Prepared, AllocError>
         ensures { IfOk result (PreparesAt hub.now self.now.connections.items index) }
     {
-        let connection = self.connections.get(index).ok_or(AllocError)?;
-        match connection.asked() {
+        let Some(connection) = self.connections.get(index) else {
+            return Err(AllocError);
+        };
+        match connection.request.asked() {
             Some(RoomRequest::Read(part)) => room_request::prepare_read(alloc, hub, part),
             Some(RoomRequest::Edit(edit)) => {
-                room_request::prepare_edit(alloc, hub, edit, connection.body(edit))
+                room_request::prepare_edit(alloc, hub, edit, connection.request.body(edit))
             }
             _ => Err(AllocError),
         }
@@ -432,7 +437,11 @@ where
     }
 
     /// True if a response that was given between turns is still to be sent, or a visit to be made.
-    pub fn is_behind(&self) -> bool {
+    pub fn is_behind(&self) -> bool
+        // Nobody whose request for a visit was received waits for another event.
+        ensures { IsTrue (is_some (first_to kind.Visit self.now.connections.items))
+            → IsTrue result }
+    {
         self.is_behind || self.first_to(Kind::Visit).is_some()
     }
 
@@ -442,6 +451,17 @@ where
     {
         self.connections
             .iter()
-            .position(|connection| connection.asks_for(kind))
+            .position(|connection| connection.request.asks_for(kind))
+    }
+}
+
+/// The request that an answer accepts, if that asks nothing of a room.
+fn request_in(asked: &Ask) -> Option<AdminRequest>
+    ensures is { result ≡ request_in asked.now }
+    ensures asked { IfSome result (λ request. asked.now ≡ Ask.Request request) }
+{
+    match asked {
+        Ask::Request(request) => Some(*request),
+        _ => None,
     }
 }

@@ -11,8 +11,8 @@ ghost use Rattle.relay_operator.specs.Rows.{empty_for, rooms_listed, with_row};
 use crate::counters::Counters;
 use json::Writer;
 use relay_admin::{
-    AdminRequest, Ask, DrawnMessages, Metrics, Response, RoomRow, SnapshotsBy, begin_rooms,
-    end_rooms, metrics_text, response_text, wanted_text, write_room,
+    AdminRequest, Ask, Commits, DrawnMessages, Metrics, Response, RoomRow, SnapshotsBy,
+    begin_rooms, end_rooms, metrics_text, response_text, wanted_text, write_room,
 };
 use relay_hub::{Hub, RoomSummary, SnapshotCounts};
 use std::alloc::{AllocError, Global};
@@ -38,6 +38,8 @@ pub struct AdminView<'v> {
     pub rounds: u64,
     /// The time for which the longest round of the last minute worked, in microseconds.
     pub longest_round: u64,
+    /// The commits that kept the rooms, and those that failed.
+    pub commits: Commits,
 }
 
 /// The rooms of a hub together.
@@ -143,6 +145,7 @@ impl AdminView<'_> {
             rounds: self.rounds,
             longest_round: self.longest_round,
             hub_cost: self.hub.cost(),
+            commits: self.commits,
         }
     }
 

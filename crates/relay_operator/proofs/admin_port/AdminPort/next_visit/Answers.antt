@@ -1,7 +1,7 @@
 -- A pass gave a response to the first that wanted a visit.
 use Rattle.std.proofs.Common.{Ok, Err, refl, sym, subst, ◌∙◌}
 use Rattle.relay_operator.specs.Answering.{PreparesAt, none}
-use Rattle.relay_operator.proofs.Giving.{answers_next}
+use Rattle.relay_operator.proofs.Giving.{answers_next, some_visits}
 use Rattle.relay_operator.proofs.admin_port.AdminPort.next_visit.Goals as goal
 use Rattle.relay_operator.proofs.admin_port.AdminPort.next_visit.Goals.{in-Ok-Response, in-Err}
 
@@ -25,3 +25,8 @@ loop-preserved g c = elim c.match-prepare_at.branch [
       (Err (record {})) c.args.self.now.connections.items c.loop.self.connections.items _
       c.loop.invariant (sym c.first_to.ensures ∙ c.in-Some.is) tt w.answer_at-in-Err.ensures)
 ]
+
+pub returns-in-Ok-Visit-clause-some : goal.returns-in-Ok-Visit-clause-some
+returns-in-Ok-Visit-clause-some g c =
+    some_visits c.args.hub.now c.loop.self.connections.items c.in-Some.index c.in-Ok-Visit.visit
+    (rw c.in-Ok-Visit.field-0-is at c.in-Ok-Visit.ensures)

@@ -12,16 +12,19 @@ returns-in-Some-Ok-clause-responds g c =
     let there =
     slice_get_read held _ c.args.index c.in-Some-Ok.connection.now refl
     c.in-Some-Ok.ensures.item.3.0 c.in-Some-Ok.ensures.value in
-    inr (record {
-      asker = c.in-Some-Ok.connection.now;
-      there = there;
-      reply = c.in-Some-Ok.reply;
-      says =
-          subst (λ r. IfOk r (λ text. AnswersAsk c.args.view.now c.args.self.now.counters
-          c.args.asked.now (string_bytes text))) c.in-Some-Ok.is-1 c.answer-reply.ensures;
-      told = c.tell.new.self;
-      at = slice_get-set held c.args.index c.in-Some-Ok.connection.now c.tell.new.self there;
-      tells =
-          subst (λ x. Tells g.L.Stream.Write.contents x c.tell.new.self) c.answer.ensures
-          c.tell.ensures;
-    })
+    inr (
+      c.request_in-served.ensures.is,
+      record {
+        asker = c.in-Some-Ok.connection.now;
+        there = there;
+        reply = c.in-Some-Ok.reply;
+        says =
+            subst (λ r. IfOk r (λ text. AnswersAsk c.args.view.now c.args.self.now.counters
+            c.args.asked.now (string_bytes text))) c.in-Some-Ok.is-1 c.answer-reply.ensures;
+        told = c.tell.new.self;
+        at = slice_get-set held c.args.index c.in-Some-Ok.connection.now c.tell.new.self there;
+        tells =
+            subst (λ x. Tells g.L.Stream.Write.contents x c.tell.new.self) c.answer.ensures
+            c.tell.ensures;
+      },
+    )
