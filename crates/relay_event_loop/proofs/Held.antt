@@ -1,7 +1,7 @@
 -- The meaning of the slab's changes for the links of its connections.
 use Rattle.std.proofs.Common.{◌≡◌, ◌≢◌, ℕ, Result, Ok, Err, IfOk, OnErr, List, [], Option, Some}
 use Rattle.std.proofs.Common.{None, refl, sym, ◌∙◌, ap, subst, inl, inr, option_map, arith, ◌<◌}
-use Rattle.std.proofs.Common.{◌≤◌, length, cond, is_some, get_or}
+use Rattle.std.proofs.Common.{◌≤◌, length, cond, is_some, get_or, min}
 use Rattle.std.proofs.lemmas.Bool.{cases_eq}
 use Rattle.std.proofs.lemmas.List.Sums.{sum_by-set}
 use Rattle.std.specs.declared.alloc.AllocError.{AllocError}
@@ -84,6 +84,10 @@ module _ {S : Type 0} (old new : Slab (Connection S)) (key : ℕ) (slot : Option
 
   pub updated_others : (other : ℕ) → other ≢ key → links_of new other ≡ links_of old other
   updated_others other apart = ap of (updates.others other apart)
+
+-- Of at most no draws there is none.
+pub none_drawn : (made most bound : ℕ) → most ≡ 0 → made ≤ min most bound → made ≡ 0
+none_drawn made most bound none within = omega (arith, none, within)
 
 pub no_more_then : (new mid old : ℕ) → new ≤ mid → mid ≤ old → new ≤ old
 no_more_then new mid old after before = omega (arith, after, before)

@@ -4,6 +4,7 @@ use Rattle.std.specs.Prelude.{ℕ, ◌+◌, ◌-◌, ◌/◌, ◌^◌, min, max,
 use Rattle.std.specs.Prelude.{List}
 use Rattle.std.specs.Global.{Global}
 use Rattle.std.specs.declared.string.String.{String}
+use Rattle.relay_admin.specs.declared.commits.Commits.{Commits}
 use Rattle.relay_hub.specs.State.{State, session_of}
 use Rattle.relay_hub.specs.Queries.{may_hear}
 use Rattle.slab.specs.Slab.{slab_len}
@@ -21,6 +22,14 @@ limit_of s = s.max_connections
 abbrev pub made_by : {S R : Type 0} → Server S R → ℕ
 made_by s = s.rounds
 
+-- nobody is told what is not kept
+abbrev pub tells_kept : {S R : Type 0} → Server S R → Bool
+tells_kept s = s.tells_kept
+
+-- nothing can be kept any more
+abbrev pub is_lost : {S R : Type 0} → Server S R → Bool
+is_lost s = s.is_lost
+
 -- the count of rounds after so many more; it stops at 2 ^ 64 - 1
 abbrev pub made_after : {S R : Type 0} → ℕ → Server S R → ℕ
 made_after rounds s = min (2 ^ 64 - 1) (made_by s + rounds)
@@ -36,6 +45,10 @@ origins_of s = s.rules.origins.items
 -- how many connections of one address a server may hold
 abbrev pub peer_limit_of : {S R : Type 0} → Server S R → ℕ
 peer_limit_of s = s.max_per_peer
+
+-- the commits that kept its rooms, and those that failed
+abbrev pub commits_of : {S R : Type 0} → Server S R → Commits
+commits_of s = s.commits
 
 abbrev pub hub_of : {S R : Type 0} → Server S R → State
 hub_of s = s.hub

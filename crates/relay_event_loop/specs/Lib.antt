@@ -4,5 +4,6 @@ pub mod Advances
 pub mod Rounds
 pub mod Visited
 pub mod Index
+pub mod Keeping
 pub mod Limits
 pub mod Refusals

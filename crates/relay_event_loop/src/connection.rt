@@ -107,6 +107,16 @@ impl<S: Read + Write + Drop> Connection<S> {
         self.fault = Some(fault);
     }
 
+    /// Notes that the link had a read turn. Returns the number of bytes that were read.
+    pub(crate) fn note_read(&mut self) -> u64
+        ensures { self.new.link ≡ self.old.link }
+    {
+        let read = self.readiness.take_read();
+        self.has_sent |= read > 0;
+        self.read_pending = self.readiness.may_go_on();
+        read
+    }
+
     /// The address of its other side.
     pub(crate) fn address(&self) -> IpAddr {
         self.peer.ip()

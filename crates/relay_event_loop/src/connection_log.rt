@@ -49,6 +49,13 @@ pub enum LogEntry<'a> {
     },
     /// An allocation failed, so the hub gave memory back ([`relay_hub::Hub::shed`]).
     OutOfMemory,
+    /// A commit that kept the rooms took so many milliseconds, more than a second. Nobody is told
+    /// anything meanwhile.
+    SlowCommit {
+        millis: u64,
+    },
+    /// A commit failed. Nothing can be kept any more, and nobody is told anything.
+    CommitFailed,
 }
 
 /// A connection: its key in the server's slab, which a later connection may have again, and the
@@ -163,6 +170,8 @@ impl Display for LogEntry<'_> {
             }
             LogEntry::Rejected { peer } => write!(f, "event=rejected peer={peer} cause=per-peer"),
             LogEntry::OutOfMemory => f.write_str("event=out-of-memory"),
+            LogEntry::SlowCommit { millis } => write!(f, "event=slow-commit millis={millis}"),
+            LogEntry::CommitFailed => f.write_str("event=commit-failed"),
         }
     }
 }
@@ -212,8 +221,8 @@ fn cause_word(cause: EndCause) -> &'static str {
     }
 }
 
-/// Receives an entry for each connection that opens, is refused, rejected, ended or evicted, and if
-/// memory was refused.
+/// Receives an entry for each connection that opens, is refused, rejected, ended or evicted, for
+/// each commit that is slow or fails, and if memory was refused.
 ///
 /// ```
 /// // A log of the tests, which writes a line for each entry.

@@ -31,6 +31,8 @@ fn count(counters: &mut Counters, entry: &LogEntry<'_>) {
         LogEntry::Evicted { .. } => count_ended(counters, EndCause::Ended),
         LogEntry::Rejected { .. } => counters.rejected = next(counters.rejected),
         LogEntry::OutOfMemory => counters.count_shed(),
+        // the server counts commits itself, since some are made while the port is asked
+        LogEntry::SlowCommit { .. } | LogEntry::CommitFailed => {}
     }
 }
 

@@ -7,6 +7,7 @@ mod connection_log;
 mod counted;
 mod eviction_log;
 mod ready;
+mod room_keeper;
 mod server;
 mod wanted_rooms;
 
@@ -14,4 +15,5 @@ pub use connection_log::{
     ConnectionId, ConnectionLog, HandshakeRefusal, LogEntry, NoLog, RoomSession,
 };
 pub use relay_link::Entrance;
-pub use server::{Server, connection_limit};
+pub use room_keeper::{Keeping, NotKept, RoomKeeper};
+pub use server::{RoundsRun, Server, connection_limit};

@@ -1,9 +1,10 @@
 //! The relay as a server: one thread that serves non-blocking sockets in rounds.
 ghost use Rattle.std.specs.Prelude.{◌≡◌, ◌≤◌, ◌-◌, ◌^◌, [], false};
-ghost use Rattle.relay_event_loop.specs.Advances.{KeepsFewer};
+ghost use Rattle.relay_event_loop.specs.Advances.{KeepsFewer, MakesWithin};
 ghost use Rattle.relay_event_loop.specs.Connections.{connections_of, limit_of, hub_of};
 ghost use Rattle.relay_event_loop.specs.Connections.{entrance_of, origins_of, peer_limit_of};
-ghost use Rattle.relay_event_loop.specs.Connections.{connection_limit, made_by, made_after};
+ghost use Rattle.relay_event_loop.specs.Connections.{connection_limit, made_by};
+ghost use Rattle.relay_event_loop.specs.Connections.{made_after};
 ghost use Rattle.relay_event_loop.specs.Limits.{forgets_rooms, output_limit_of};
 ghost use Rattle.relay_event_loop.specs.Limits.{read_ahead_limits, rooms_of};
 ghost use Rattle.relay_event_loop.specs.Rounds.{RoundsOf, ConnectedOf};
@@ -15,6 +16,7 @@ mod administering;
 mod admitting;
 mod ending;
 mod forgetting;
+mod keeping;
 mod polling;
 mod queueing;
 mod reading;
@@ -24,9 +26,11 @@ mod writing;
 
 use crate::connection::Connection;
 use crate::connection_log::ConnectionLog;
+use crate::room_keeper::RoomKeeper;
 use crate::wanted_rooms::WantedRooms;
 use forgetting::RoomVacancies;
 use indexmap::IndexMap;
+use relay_admin::Commits;
 use relay_hub::{Hub, HubConfig};
 use relay_link::{EntryRules, Watchers};
 use relay_readiness::{Readiness, ReadyEvent};
@@ -51,6 +55,36 @@ pub fn connection_limit(sessions: u64) -> usize
     sessions.saturating_add(spare) as usize
 }
 
+/// The rounds that a server ran.
+///
+/// ```
+/// let (script, listener) = (ReadinessScript::new(alloc), MemoryListener::new(alloc));
+/// let hub = Hub::new(alloc, 1, 1, 64, 32).ok()?;
+/// let readiness = ScriptedReadiness::of(&script);
+/// let mut server: Server<End<'_>, _> = Server::new(alloc, hub, readiness, 1_000_000);
+/// let run = server.run(alloc, &listener, 3, &mut NotKept, &mut NoLog);
+/// assert!(rt; run == RoundsRun { made: 3, is_lost: false });
+/// ```
+#[derive(Clone, Copy, Debug, PartialEq, Eq)]
+pub struct RoundsRun {
+    pub made: u64,
+    /// True if not all is kept in the end, and nothing can be kept any more or there was no memory.
+    pub is_lost: bool,
+}
+
+impl RoundsRun {
+    /// The same rounds, with what they left kept or not.
+    fn and_kept(self, is_kept: bool) -> RoundsRun
+        ensures made { result.made ≡ self.made }
+        ensures lost { result.is_lost ≡ false → self.is_lost ≡ false }
+    {
+        RoundsRun {
+            is_lost: self.is_lost || !is_kept,
+            ..self
+        }
+    }
+}
+
 /// A hub, the connections to it in a slab, and the source of their readiness.
 ///
 /// ```
@@ -61,7 +95,7 @@ pub fn connection_limit(sessions: u64) -> usize
 /// // A client's handshake waits, and is answered in the round that accepts its connection.
 /// wire.try_borrow_mut().ok()?.perform(alloc, "asks 13 /rooms/a").ok()?;
 /// listener.add(&wire)?;
-/// server.round(alloc, &listener, &mut NoLog);
+/// server.round(alloc, &listener, &mut NotKept, &mut NoLog);
 /// assert!(rt; server.connections() == 1);
 /// assert!(rt; wire.try_borrow_mut().ok()?.output.as_slice().starts_with(b"HTTP/1.1 101 "));
 /// // In the end the client gets a close frame with 1001.
@@ -110,6 +144,12 @@ pub struct Server<S: Write + Drop, R> {
     next_arrival: u64,
     /// The maximum number of connections of one address.
     max_per_peer: u64,
+    /// True if nobody is told what is not kept.
+    tells_kept: bool,
+    /// True if nothing can be kept any more.
+    is_lost: bool,
+    /// The commits that kept the rooms, and those that failed.
+    commits: Commits,
 }
 
 impl<S: Read + Write + OpenStream + Drop, R: Readiness<S>> Server<S, R> {
@@ -166,6 +206,9 @@ impl<S: Read + Write + OpenStream + Drop, R: Readiness<S>> Server<S, R> {
             next_shed_entry: 0,
             next_arrival: 0,
             max_per_peer: u64::MAX,
+            tells_kept: false,
+            is_lost: false,
+            commits: Commits::default(),
         }
     }
 
@@ -178,7 +221,7 @@ impl<S: Read + Write + OpenStream + Drop, R: Readiness<S>> Server<S, R> {
     /// let hub = Hub::new(alloc, 1, 1, 64, 32).ok()?;
     /// let mut server = Server::new(alloc, hub, ScriptedReadiness::of(&script), 1_000_000);
     /// listener.add(&wire)?;
-    /// server.round(alloc, &listener, &mut NoLog);
+    /// server.round(alloc, &listener, &mut NotKept, &mut NoLog);
     /// // A connection counts before its handshake has come.
     /// assert!(rt; server.connections() == 1);
     /// ```
@@ -202,6 +245,9 @@ impl<S: Read + Write + OpenStream + Drop, R: Readiness<S>> Server<S, R> {
     ///   the hub, or the turns have cost 5 ms. A turn costs the time that it took by the clock of
     ///   the readiness ([`Readiness::micros`]), and at least what the hub counts
     ///   ([`relay_hub::Hub::cost`]);
+    /// - has the rooms kept, if nobody is told what is not kept ([`Server::tell_kept`]): then the
+    ///   read turns before drew nothing, and the write turns behind it are given only if that was
+    ///   done;
     /// - writes: each link with corked output, and then each for which something waits, whose
     ///   stream is writable, gets a write turn, which draws and sends up to 32 messages, each time
     ///   starting with the one that has waited longest. Each of these two passes stops at 256 KiB;
@@ -212,9 +258,10 @@ impl<S: Read + Write + OpenStream + Drop, R: Readiness<S>> Server<S, R> {
     /// - does the wills of the sessions that were closed: one at least, and others until the turns
     ///   of the round have cost 5 ms, or the last one's room may not be read ahead. What is left is
     ///   done in the next round, which does not wait. Out of memory leaves a will likewise;
-    /// - writes again, if anything was read or done since;
-    /// - forgets the room that has been empty for the longest time, if the server forgets rooms
-    ///   ([`Server::forget_rooms`]) and none is left for a new name.
+    /// - has the rooms kept and writes again, if anything was read or done since.
+    ///
+    /// If a new room is refused since there are as many as may be, and the server forgets rooms
+    /// ([`Server::forget_rooms`]), the one that has been empty for the longest time is forgotten.
     ///
     /// A turn takes what it cost from the credit of its connection, and each round of credit gives
     /// the same to all ([`relay_schedule::ReadyQueue`]). A room may be read ahead if none of its
@@ -251,14 +298,15 @@ impl<S: Read + Write + OpenStream + Drop, R: Readiness<S>> Server<S, R> {
     /// let mut server = Server::new(alloc, hub, ScriptedReadiness::of(&script), 1_000_000);
     /// wire.try_borrow_mut().ok()?.perform(alloc, "asks 13 /other").ok()?;
     /// listener.add(&wire)?;
-    /// server.round(alloc, &listener, &mut NoLog);
+    /// server.round(alloc, &listener, &mut NotKept, &mut NoLog);
     /// assert!(rt; wire.try_borrow_mut().ok()?.output.as_slice().starts_with(b"HTTP/1.1 404 "));
     /// ```
     #[tactic(auto, using(crate::proofs::Rules::rounds))]
-    pub fn round<L: OpenListener<Stream = S>, J: ConnectionLog>(
+    pub fn round<L: OpenListener<Stream = S>, K: RoomKeeper, J: ConnectionLog>(
         &mut self,
         alloc: Global,
         listener: &L,
+        keeper: &mut K,
         log: &mut J,
     )
         ensures rounds { RoundsOf S.remaining S.contents self.old self.new }
@@ -273,12 +321,12 @@ impl<S: Read + Write + OpenStream + Drop, R: Readiness<S>> Server<S, R> {
         self.relieve(alloc, before, log);
         self.accept(alloc, listener, log);
         let spending = self.read(alloc, log);
-        self.write(alloc, log);
-        self.serve_owing(alloc, spending, log);
-        self.make_room(alloc, log);
+        self.tell(alloc, keeper, log);
+        self.serve_owing(alloc, spending, keeper, log);
     }
 
-    /// Runs that many rounds, and ends every connection as [`Server::end`] does.
+    /// Runs that many rounds, or fewer if nothing can be kept any more ([`Server::is_lost`]), and
+    /// ends every connection as [`Server::end`] does; what that changed is kept.
     ///
     /// ```
     /// let (wire, script) = (Wire::new(alloc), ReadinessScript::new(alloc));
@@ -287,27 +335,59 @@ impl<S: Read + Write + OpenStream + Drop, R: Readiness<S>> Server<S, R> {
     /// let mut server = Server::new(alloc, hub, ScriptedReadiness::of(&script), 1_000_000);
     /// wire.try_borrow_mut().ok()?.perform(alloc, "asks 13 /rooms/a").ok()?;
     /// listener.add(&wire)?;
-    /// server.run(alloc, &listener, 3, &mut NoLog);
+    /// server.run(alloc, &listener, 3, &mut NotKept, &mut NoLog);
     /// assert!(rt; wire.try_borrow_mut().ok()?.output.as_slice().ends_with(b"\x88\x02\x03\xe9"));
     /// ```
     #[tactic(auto, using(crate::proofs::Rules::rounds))]
-    pub fn run<L: OpenListener<Stream = S>, J: ConnectionLog>(
+    pub fn run<L: OpenListener<Stream = S>, K: RoomKeeper, J: ConnectionLog>(
         &mut self,
         alloc: Global,
         listener: &L,
         rounds: u64,
+        keeper: &mut K,
         log: &mut J,
-    )
+    ) -> RoundsRun
+        ensures at_most { result.made ≤ rounds }
+        ensures all { result.is_lost ≡ false → result.made ≡ rounds }
         ensures rounds { RoundsOf S.remaining S.contents self.old self.new }
-        ensures made { made_by self.new ≡ made_after rounds self.old }
+        ensures made { made_by self.new ≡ made_after result.made self.old }
         ensures limit { limit_of self.new ≡ limit_of self.old }
         ensures within { connections_of self.old ≤ limit_of self.old
             → connections_of self.new ≤ limit_of self.old }
     {
-        for _ in 0..rounds {
-            self.round(alloc, listener, log);
-        }
+        let run = self.run_unless_lost(alloc, listener, rounds, keeper, log);
         self.end(alloc, log);
+        let is_kept = self.keep(alloc, keeper, log);
+        run.and_kept(is_kept)
+    }
+
+    /// Runs that many rounds, or fewer if nothing can be kept any more.
+    #[tactic(auto, using(crate::proofs::Rules::rounds))]
+    fn run_unless_lost<L: OpenListener<Stream = S>, K: RoomKeeper, J: ConnectionLog>(
+        &mut self,
+        alloc: Global,
+        listener: &L,
+        rounds: u64,
+        keeper: &mut K,
+        log: &mut J,
+    ) -> RoundsRun
+        ensures at_most { result.made ≤ rounds }
+        ensures all { result.is_lost ≡ false → result.made ≡ rounds }
+        ensures makes { MakesWithin S.remaining S.contents result.made self.old self.new }
+    {
+        for before in 0..rounds {
+            self.round(alloc, listener, keeper, log);
+            if self.is_lost {
+                return RoundsRun {
+                    made: before + 1,
+                    is_lost: true,
+                };
+            }
+        }
+        RoundsRun {
+            made: rounds,
+            is_lost: false,
+        }
     }
 
     /// An upper bound of the keys, exclusive.

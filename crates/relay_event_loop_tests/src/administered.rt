@@ -1,6 +1,6 @@
 //! A server with an admin port: what it answers beside its rounds, and how it stops.
-use crate::memory_server::{MemoryListener, ReadinessScript, ScriptedReadiness};
-use relay_event_loop::{Entrance, NoLog, Server};
+use crate::memory_server::{MemoryListener, ReadinessScript, ScriptedKeeper, ScriptedReadiness};
+use relay_event_loop::{Entrance, Keeping, NoLog, NotKept, Server};
 use relay_hub::{Hub, HubConfig};
 use relay_operator::AdminPort;
 use relay_readiness::{AdminReadiness, ReadyEvent};
@@ -67,6 +67,38 @@ metric relay_waiting_weight 0 => true
 metric relay_rounds_total 1 => true
 metric relay_longest_round_seconds 0e-6 => true
 metric relay_hub_cost_seconds_total 0e-6 => true
+
+# Nothing is committed by a server whose rooms end with it.
+client asks 13 /rooms/r
+operator line GET /metrics HTTP/1.1
+operator line Host: localhost
+operator line
+run 3 => 3
+metric relay_store_commit_seconds_count 0 => true
+metric relay_store_commit_failures_total 0 => true
+
+# Each call that keeps something is a commit: two before the round writes, and one before the operator is answered.
+keeps 0
+client asks 13 /rooms/r
+operator line GET /metrics HTTP/1.1
+operator line Host: localhost
+operator line
+run 3 => 3
+metric relay_store_commit_seconds_bucket{le="0.001"} 3 => true
+metric relay_store_commit_seconds_bucket{le="+Inf"} 3 => true
+metric relay_store_commit_seconds_sum 0e-6 => true
+metric relay_store_commit_seconds_count 3 => true
+metric relay_store_commit_failures_total 0 => true
+
+# One for which there is no memory fails, and the operator is answered once there was some.
+keeps 3
+client asks 13 /rooms/r
+operator line GET /metrics HTTP/1.1
+operator line Host: localhost
+operator line
+run 5 => 5
+metric relay_store_commit_failures_total 3 => true
+metric relay_store_commit_seconds_count 2 => true
 
 # A closed server refuses its clients, counts them, and says so to an operator.
 closed
@@ -256,16 +288,19 @@ fn play_case(rt: &(impl Abort + AllocGlobal), case: &str) {
         client: &client,
         operator: &operator,
         is_closed: false,
+        put_off: None,
     };
     play(rt, &mut port, case).expect(rt, "each row holds");
 }
 
-/// The wires of a client and of an operator, and whether the server begins closed.
+/// The wires of a client and of an operator, whether the server begins closed, and what it keeps.
 #[derive(Clone, Copy)]
 struct Port<'a> {
     client: &'a RefCell<Wire>,
     operator: &'a RefCell<Wire>,
     is_closed: bool,
+    /// If nobody is told what is not kept, the number of times that there is no memory to keep it.
+    put_off: Option<u64>,
 }
 
 impl<R: AllocGlobal> Subject<R> for Port<'_> {
@@ -275,6 +310,7 @@ impl<R: AllocGlobal> Subject<R> for Port<'_> {
     /// - `run N` runs a server for at most so many rounds, and tells how many were run; `run-first
     ///   N` does so twice, at first for the operator alone, who is not answered later;
     /// - `closed` has the server let no client in until it is opened;
+    /// - `keeps N` has it tell only what is kept, for which there is no memory so many times;
     /// - `status` and `body` tell the status and the body of the reply to the operator, with `\n`
     ///   for the end of a line, and `metric LINE` whether it has this line;
     /// - `unanswered` tells whether the operator got nothing at all;
@@ -289,6 +325,7 @@ impl<R: AllocGlobal> Subject<R> for Port<'_> {
             "run" => self.run(alloc, rest.parse::<u64>().ok()?),
             "run-first" => self.run_first(alloc, rest.parse::<u64>().ok()?),
             "closed" => self.close(alloc),
+            "keeps" => self.keep_after(alloc, rest.parse::<u64>().ok()?),
             "body" => body(alloc, self.operator),
             "status" => status(alloc, self.operator),
             "unanswered" => is_unanswered(alloc, self.operator),
@@ -307,6 +344,12 @@ impl Port<'_> {
         Some(String::new(alloc))
     }
 
+    /// From now on the server tells only what is kept, once there was no memory so many times.
+    fn keep_after(&mut self, alloc: Global, put_off: u64) -> Option<String> {
+        self.put_off = Some(put_off);
+        Some(String::new(alloc))
+    }
+
     /// Runs a server for at most so many rounds, to which the client and the operator are
     /// connected. Tells how many rounds were run.
     fn run(&self, alloc: Global, rounds: u64) -> Option<String> {
@@ -315,7 +358,21 @@ impl Port<'_> {
         let mut admin = AdminPort::new(alloc, listener_with(alloc, self.operator)?);
         let listener = listener_with(alloc, self.client)?;
         let mut server = server(alloc, &script, self.is_closed)?;
-        let run = server.run_administered(alloc, &listener, &mut admin, rounds, &mut NoLog);
+        if self.put_off.is_some() {
+            server.tell_kept();
+        }
+        let mut keeper = ScriptedKeeper {
+            outcome: Keeping::Done,
+            put_off: self.put_off.unwrap_or(0),
+        };
+        let run = server.run_administered(
+            alloc,
+            &listener,
+            &mut admin,
+            rounds,
+            &mut keeper,
+            &mut NoLog,
+        );
         format!(in alloc; "{run}").ok()
     }
 
@@ -327,9 +384,16 @@ impl Port<'_> {
         let nobody = MemoryListener::new(alloc);
         let listener = listener_with(alloc, self.client)?;
         let mut server = server(alloc, &script, self.is_closed)?;
-        server.run_administered(alloc, &nobody, &mut admin, rounds, &mut NoLog);
+        server.run_administered(alloc, &nobody, &mut admin, rounds, &mut NotKept, &mut NoLog);
         script.try_borrow_mut().ok()?.add(ReadyEvent::Incoming)?;
-        let run = server.run_administered(alloc, &listener, &mut admin, rounds, &mut NoLog);
+        let run = server.run_administered(
+            alloc,
+            &listener,
+            &mut admin,
+            rounds,
+            &mut NotKept,
+            &mut NoLog,
+        );
         format!(in alloc; "{run}").ok()
     }
 }

@@ -1,6 +1,6 @@
 //! A server and its clients, each at a wire of its own, to which the acts of rows are done.
 use crate::memory_server::{MemoryServer, ReadinessScript};
-use relay_event_loop::Entrance;
+use relay_event_loop::{Entrance, Keeping};
 use relay_hub::HubConfig;
 use relay_readiness::{ReadyEvent, StreamReady};
 use relay_test_stream::{Subject, Wire, cut, play, push_summary};
@@ -109,6 +109,8 @@ impl<R: AllocGlobal> Subject<R> for Clients<'_> {
     ///
     /// - `server FIELD=N ..` is a new server of a hub with this configuration, and `forget-rooms`
     ///   has it forget rooms; from `closed` on it lets no client in, and from `opened` on it does;
+    ///   from `keeps OUTCOME` on it tells only what is kept, and keeping is `done`, not needed
+    ///   since all is `unchanged`, put off until `later`, or `lost`;
     /// - `connect K` has a client connect, `arrive K` runs a round then, and `enter K` has it ask
     ///   for the room `r`, and runs three rounds;
     /// - `wire K ACT` does an act of the wire, and `send K ACT` announces that it is readable, too;
@@ -214,6 +216,7 @@ impl<'a> Clients<'a> {
             "forget-rooms" => self.forget_rooms(),
             "closed" => self.set_entrance(Entrance::closed(alloc)),
             "opened" => self.set_entrance(Entrance::Open),
+            "keeps" => self.keep_with(rest),
             "per-peer" => self.set_per_peer(number(rest)?),
             "only" => self.set_origin(alloc, rest),
             "arrive" => self.arrive(alloc, rest),
@@ -223,6 +226,18 @@ impl<'a> Clients<'a> {
             "sleep" => self.sleep(alloc),
             _ => self.bring(alloc, word, rest),
         }
+    }
+
+    /// From now on the server tells only what is kept, and keeping comes to this.
+    fn keep_with(&mut self, outcome: &str) -> Option<()> {
+        self.server.keep_with(match outcome {
+            "done" => Keeping::Done,
+            "unchanged" => Keeping::Unchanged,
+            "later" => Keeping::Later,
+            "lost" => Keeping::Lost,
+            _ => return None,
+        });
+        Some(())
     }
 
     /// Does an act that comes before a round.

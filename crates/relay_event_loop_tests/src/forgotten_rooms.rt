@@ -16,7 +16,8 @@ wire 1 asks 13 /rooms/s
 rounds 1
 count 1 HTTP/1.1 503 => 1
 
-# A server that forgets rooms forgets the one in which nobody is.
+# A server that forgets rooms then forgets the one in which nobody is, and the next one who asks
+# finds a place.
 server rooms=1
 forget-rooms
 enters
@@ -28,7 +29,25 @@ rounds 1
 connect 1
 wire 1 asks 13 /rooms/s
 rounds 1
-count 1 "kind":"welcome" => 1
+count 1 HTTP/1.1 503 => 1
+connect 2
+wire 2 asks 13 /rooms/s
+rounds 1
+count 2 "kind":"welcome" => 1
+
+# It forgets none as long as nobody asks for another.
+server rooms=1
+forget-rooms
+enters
+send 0 says {"do":"edit","id":2,"patch":[{"op":"add","path":"","value":7}]}
+rounds 1
+wire 0 ends
+over 0
+rounds 3
+connect 1
+wire 1 asks 13 /rooms/r
+rounds 1
+count 1 "rev":1 => 1
 
 # It forgets none in which a session is.
 server rooms=1
@@ -40,8 +59,35 @@ connect 1
 wire 1 asks 13 /rooms/s
 rounds 2
 count 1 HTTP/1.1 503 => 1
+connect 2
+wire 2 asks 13 /rooms/s
+rounds 2
+count 2 HTTP/1.1 503 => 1
 
-# It forgets the one that has been empty for the longest time: s, and then r.
+# It forgets none that has a document if there is one that has none: s makes room for t.
+server rooms=2
+forget-rooms
+enters
+send 0 says {"do":"edit","id":2,"patch":[{"op":"add","path":"","value":7}]}
+connect 1
+wire 1 asks 13 /rooms/s
+rounds 2
+wire 0 ends
+over 0
+wire 1 ends
+over 1
+rounds 1
+connect 2
+wire 2 asks 13 /rooms/t
+rounds 1
+count 2 "kind":"welcome" => 1
+connect 3
+wire 3 asks 13 /rooms/r
+rounds 1
+count 3 "rev":1 => 1
+
+# It forgets the one that was left first, also if the other was left in the same second: s, so t
+# has its place, and r is as it was.
 server rooms=2
 forget-rooms
 enters
@@ -50,28 +96,28 @@ connect 1
 wire 1 asks 13 /rooms/s
 rounds 2
 send 1 says {"do":"edit","id":2,"patch":[{"op":"add","path":"","value":7}]}
-second
 rounds 1
 wire 1 ends
 over 1
-rounds 1
-second
 rounds 1
 wire 0 ends
 over 0
 rounds 1
 connect 2
 wire 2 asks 13 /rooms/t
-rounds 2
-count 2 "kind":"welcome" => 1
+rounds 1
+count 2 HTTP/1.1 503 => 1
 connect 3
-wire 3 asks 13 /rooms/s
-rounds 2
-count 3 "rev":0 => 0
-count 3 "kind":"welcome" => 0
+wire 3 asks 13 /rooms/t
+rounds 1
+count 3 "kind":"welcome" => 1
+connect 4
+wire 4 asks 13 /rooms/r
+rounds 1
+count 4 "rev":1 => 1
 "#;
 
 #[test]
-fn rooms_are_forgotten_when_all_places_are_taken(rt: HostRuntime) {
+fn a_room_is_forgotten_when_another_finds_no_place(rt: HostRuntime) {
     play_anew(&rt, ROWS);
 }

@@ -14,6 +14,8 @@ mod forgotten;
 #[cfg(test)]
 mod forgotten_rooms;
 #[cfg(test)]
+mod kept;
+#[cfg(test)]
 mod logging;
 #[cfg(test)]
 mod loopback;

@@ -1,6 +1,6 @@
 //! A server behind a loopback socket, and two clients of its room.
 use relay_access::Access;
-use relay_event_loop::{NoLog, Server};
+use relay_event_loop::{NoLog, NotKept, Server};
 use relay_hub::Hub;
 use relay_loopback::{Client, ClientHandshake};
 use relay_readiness::Polling;
@@ -136,7 +136,8 @@ impl<N: AllocGlobal + Net> Loopback<N> {
     }
 
     fn round(&mut self, alloc: Global) {
-        self.serving.round(alloc, &self.listener, &mut NoLog);
+        self.serving
+            .round(alloc, &self.listener, &mut NotKept, &mut NoLog);
     }
 
     fn end(&mut self, alloc: Global) -> Option<()> {

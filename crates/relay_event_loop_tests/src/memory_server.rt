@@ -1,5 +1,5 @@
 //! A server over in-memory streams, whose readiness the test controls.
-use relay_event_loop::{ConnectionLog, LogEntry, Server};
+use relay_event_loop::{ConnectionLog, Keeping, LogEntry, RoomKeeper, Server};
 use relay_hub::{Hub, HubConfig};
 use relay_readiness::{Readiness, ReadyEvent};
 use relay_test_stream::{End, Wire};
@@ -153,6 +153,33 @@ impl ConnectionLog for FieldLines {
     }
 }
 
+/// A keeper that keeps nothing, and says what the test sets.
+#[derive(Clone, Copy)]
+pub(crate) struct ScriptedKeeper {
+    pub outcome: Keeping,
+    /// The number of calls that come before and have no memory.
+    pub put_off: u64,
+}
+
+impl RoomKeeper for ScriptedKeeper {
+    ghost use Rattle.std.specs.Prelude.{⊤};
+
+    // it keeps nothing, and only says so
+    ghost has_kept = { λ _ _ _. ⊤ };
+
+    fn is_keeping(&self) -> bool {
+        true
+    }
+
+    fn keep(&mut self, _: Global, _: &Hub) -> Keeping {
+        if self.put_off > 0 {
+            self.put_off -= 1;
+            return Keeping::Later;
+        }
+        self.outcome
+    }
+}
+
 /// A server, its listener, and the readiness of its streams.
 #[derive(Drop)]
 pub(crate) struct MemoryServer<'a> {
@@ -160,6 +187,7 @@ pub(crate) struct MemoryServer<'a> {
     script: &'a RefCell<ReadinessScript>,
     /// The server of a hub.
     pub server: Server<End<'a>, ScriptedReadiness<'a>>,
+    keeper: ScriptedKeeper,
     /// The server's log.
     pub log: FieldLines,
 }
@@ -176,6 +204,10 @@ impl<'a> MemoryServer<'a> {
             listener: MemoryListener::new(alloc),
             script,
             server: Server::new(alloc, hub, ScriptedReadiness::of(script), MOST_OUTPUT),
+            keeper: ScriptedKeeper {
+                outcome: Keeping::Done,
+                put_off: 0,
+            },
             log: FieldLines {
                 text: String::new(alloc),
             },
@@ -211,6 +243,12 @@ impl<'a> MemoryServer<'a> {
         Some(())
     }
 
+    /// From now on the server tells only what is kept, and keeping comes to this.
+    pub fn keep_with(&mut self, outcome: Keeping) {
+        self.server.tell_kept();
+        self.keeper.outcome = outcome;
+    }
+
     /// The script of what the next round learns of the streams.
     fn script(&self) -> Option<RefMut<'a, ReadinessScript>> {
         self.script.try_borrow_mut().ok()
@@ -219,7 +257,8 @@ impl<'a> MemoryServer<'a> {
     /// Runs a round. Returns the time limit of its wait, in milliseconds; nothing if a connection
     /// that wants a turn is not queued for it.
     pub fn round(&mut self, alloc: Global) -> Option<u64> {
-        self.server.round(alloc, &self.listener, &mut self.log);
+        self.server
+            .round(alloc, &self.listener, &mut self.keeper, &mut self.log);
         let waited = self.script()?.waited;
         self.server.unqueued().is_none().then_some(waited)
     }

@@ -24,6 +24,13 @@ pub enum ServeFault {
     /// The system's poll for ready sockets cannot be set up.
     #[error("cannot wait for sockets")]
     Wait,
+    /// The store cannot be opened, or no hub can be made of it. Whoever opened it has said why.
+    #[error("the store cannot be opened")]
+    Store,
+    /// Nothing can be kept any more, so nobody was told what happened since; or, at the end of a
+    /// run, the log of the store could not be moved into its file. Whoever keeps has said why.
+    #[error("the store cannot be written")]
+    Lost,
     /// A fault with which a script can end too.
     #[error("{0}")]
     Ended(ScriptFault),

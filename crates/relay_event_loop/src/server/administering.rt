@@ -8,6 +8,8 @@ use super::Server;
 use super::reading::{ROUND_COST, TURN_COST};
 use crate::connection_log::ConnectionLog;
 use crate::counted::Counted;
+use crate::room_keeper::RoomKeeper;
+use relay_hub::ForgetFault;
 use relay_link::{Entrance, Visit};
 use relay_operator::{AdminPort, AdminView, MAX_CONNECTIONS};
 use relay_readiness::{AdminReadiness, Readiness};
@@ -34,14 +36,16 @@ where
     /// clients in from then on, if it asks for that ([`Server::set_entrance`]). Ends after that
     /// many rounds, or once a stop was asked: then nobody is accepted and nothing is read any
     /// more, and what waits for the sessions is written for at most five seconds. At last it ends
-    /// every connection, an open one with a close frame 1001. Returns how many rounds were run.
+    /// every connection, an open one with a close frame 1001, and has kept what that changed.
+    /// Returns how many rounds were run.
     #[tactic(auto, using(crate::proofs::Rules::rounds))]
-    pub fn run_administered<L: OpenListener<Stream = S>, J: ConnectionLog>(
+    pub fn run_administered<L: OpenListener<Stream = S>, K: RoomKeeper, J: ConnectionLog>(
         &mut self,
         alloc: Global,
         listener: &L,
         admin: &mut AdminPort<L>,
         rounds: u64,
+        keeper: &mut K,
         log: &mut J,
     ) -> u64
         ensures at_most { result ≤ rounds }
@@ -52,20 +56,22 @@ where
         ensures within { connections_of self.old ≤ limit_of self.old
             → connections_of self.new ≤ limit_of self.old }
     {
-        let done = self.run_until_stop(alloc, listener, admin, rounds, log);
+        let done = self.run_until_stop(alloc, listener, admin, rounds, keeper, log);
         self.end(alloc, &mut Counted::to(&mut admin.counters, log));
+        self.keep(alloc, keeper, log);
         done
     }
 
     /// Runs rounds, until that many were run or a stop was asked and what waits was told. Returns
     /// how many were run.
     #[tactic(auto, using(crate::proofs::Rules::rounds))]
-    fn run_until_stop<L: OpenListener<Stream = S>, J: ConnectionLog>(
+    fn run_until_stop<L: OpenListener<Stream = S>, K: RoomKeeper, J: ConnectionLog>(
         &mut self,
         alloc: Global,
         listener: &L,
         admin: &mut AdminPort<L>,
         rounds: u64,
+        keeper: &mut K,
         log: &mut J,
     ) -> u64
         ensures at_most { result ≤ rounds }
@@ -75,27 +81,35 @@ where
         for before in 0..rounds {
             admin.counters.begin(self.readiness.now());
             let mut counted = Counted::to(&mut admin.counters, log);
-            self.round(alloc, listener, &mut counted);
-            if self.administer(alloc, admin, log) {
-                self.take_leave(alloc, log);
+            self.round(alloc, listener, keeper, &mut counted);
+            let is_stopped = self.administer(alloc, admin, keeper, log);
+            if is_stopped {
+                self.take_leave(alloc, keeper, log);
+            }
+            if is_stopped || self.is_lost {
                 return before + 1;
             }
         }
         rounds
     }
 
-    /// Answers the requests at the admin port, if it may have work. Returns whether a stop was
-    /// asked.
+    /// Answers the requests at the admin port, if it may have work, and all rooms are kept. Returns
+    /// whether a stop was asked.
     #[tactic(auto, using(crate::proofs::Rules::advances))]
-    fn administer<L: OpenListener<Stream = S>, J: ConnectionLog>(
+    fn administer<L: OpenListener<Stream = S>, K: RoomKeeper, J: ConnectionLog>(
         &mut self,
         alloc: Global,
         admin: &mut AdminPort<L>,
+        keeper: &mut K,
         log: &mut J,
     ) -> bool
         ensures { KeepsFewer S.remaining S.contents self.old self.new }
     {
         if !self.readiness.take_ready() {
+            return false;
+        }
+        if !self.keep(alloc, keeper, log) {
+            self.readiness.ready_again();
             return false;
         }
         let has_more = admin.accept(alloc, &mut self.readiness);
@@ -110,14 +124,15 @@ where
             wills: self.wills_done,
             rounds: self.rounds,
             longest_round: self.readiness.longest_round(),
+            commits: self.commits,
         };
         let turn = admin.turn(alloc, &view);
         if turn.is_opening {
             self.set_entrance(Entrance::Open);
         }
         self.admit_asked(alloc, admin, log);
-        self.forget_asked(alloc, admin);
-        self.visit_asked(alloc, admin, log);
+        self.forget_asked(alloc, admin, keeper, log);
+        self.visit_asked(alloc, admin, keeper, log);
         if has_more || turn.has_more || admin.is_behind() {
             self.readiness.ready_again();
         }
@@ -143,27 +158,52 @@ where
         }
     }
 
-    /// Forgets each room that the admin port asks to be forgotten, in which nobody is.
-    #[tactic(auto, using(crate::proofs::Rules::house))]
-    fn forget_asked<L: OpenListener<Stream = S>>(&mut self, alloc: Global, admin: &mut AdminPort<L>)
+    /// Forgets each room that the admin port asks to be forgotten, in which nobody is. If that is
+    /// not kept, it is answered as if memory had been refused.
+    #[tactic(auto, using(crate::proofs::Rules::advances))]
+    fn forget_asked<L: OpenListener<Stream = S>, K: RoomKeeper, J: ConnectionLog>(
+        &mut self,
+        alloc: Global,
+        admin: &mut AdminPort<L>,
+        keeper: &mut K,
+        log: &mut J,
+    )
         ensures { KeepsFewer S.remaining S.contents self.old self.new }
     {
         for _ in 0..MAX_CONNECTIONS {
             let Some(room) = admin.room_to_forget() else {
                 return;
             };
-            let forgotten = self.hub.forget(alloc, room);
-            admin.answer_forget(alloc, forgotten);
+            let forgotten = self.forget(alloc, room);
+            let is_kept = self.keep(alloc, keeper, log);
+            admin.answer_forget(
+                alloc,
+                if is_kept {
+                    forgotten
+                } else {
+                    Err(ForgetFault::NoMemory)
+                },
+            );
         }
     }
 
+    /// Forgets a room in which nobody is.
+    #[tactic(auto, using(crate::proofs::Rules::house))]
+    fn forget(&mut self, alloc: Global, room: &str) -> Result<u64, ForgetFault>
+        ensures { KeepsFewer S.remaining S.contents self.old self.new }
+    {
+        self.hub.forget(alloc, room)
+    }
+
     /// Makes the visits that the admin port asks for, until they have cost what a round may. The
-    /// others wait for the next round.
+    /// others wait for the next round. One that is not kept is not answered: its connection is
+    /// dropped.
     #[tactic(auto, using(crate::proofs::Rules::advances))]
-    fn visit_asked<L: OpenListener<Stream = S>, J: ConnectionLog>(
+    fn visit_asked<L: OpenListener<Stream = S>, K: RoomKeeper, J: ConnectionLog>(
         &mut self,
         alloc: Global,
         admin: &mut AdminPort<L>,
+        keeper: &mut K,
         log: &mut J,
     )
         ensures { KeepsFewer S.remaining S.contents self.old self.new }
@@ -179,14 +219,24 @@ where
             };
             let came = self.visit(alloc, visit.room, visit.access, visit.text, log);
             let counted = cost_of(&came);
-            admin.answer_visit(alloc, &self.hub, came);
+            let is_kept = self.keep(alloc, keeper, log);
+            admin.answer_visit(
+                alloc,
+                &self.hub,
+                if is_kept { came } else { Err(AllocError) },
+            );
             spending.spend(self.lap().max(counted));
         }
     }
 
     /// Writes what waits for the sessions, for at most five seconds. Accepts and reads nothing.
     #[tactic(auto, using(crate::proofs::Rules::advances))]
-    fn take_leave<J: ConnectionLog>(&mut self, alloc: Global, log: &mut J)
+    fn take_leave<K: RoomKeeper, J: ConnectionLog>(
+        &mut self,
+        alloc: Global,
+        keeper: &mut K,
+        log: &mut J,
+    )
         ensures { KeepsFewer S.remaining S.contents self.old self.new }
     {
         let until = self
@@ -198,7 +248,7 @@ where
                 return;
             }
             self.do_wills(alloc, Spending::within(ROUND_COST), log);
-            self.write(alloc, log);
+            self.tell(alloc, keeper, log);
             self.accept_ready = false;
             self.poll();
         }

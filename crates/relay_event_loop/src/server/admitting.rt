@@ -28,7 +28,7 @@ impl<S: Read + Write + OpenStream + Drop, R: Readiness<S>> Server<S, R> {
     /// server.set_entrance(Entrance::closed(alloc));
     /// wire.try_borrow_mut().ok()?.perform(alloc, "asks 13 /rooms/a").ok()?;
     /// listener.add(&wire)?;
-    /// server.round(alloc, &listener, &mut NoLog);
+    /// server.round(alloc, &listener, &mut NotKept, &mut NoLog);
     /// assert!(rt; wire.try_borrow_mut().ok()?.output.as_slice().starts_with(b"HTTP/1.1 503 "));
     /// ```
     #[tactic(auto, using(crate::proofs::Rules::rounds))]
@@ -62,7 +62,7 @@ impl<S: Read + Write + OpenStream + Drop, R: Readiness<S>> Server<S, R> {
     /// server.set_origins(origins);
     /// wire.try_borrow_mut().ok()?.perform(alloc, "asks 13 /rooms/a").ok()?;
     /// listener.add(&wire)?;
-    /// server.round(alloc, &listener, &mut NoLog);
+    /// server.round(alloc, &listener, &mut NotKept, &mut NoLog);
     /// // This client is no page.
     /// assert!(rt; wire.try_borrow_mut().ok()?.output.as_slice().starts_with(b"HTTP/1.1 101 "));
     /// ```
@@ -94,7 +94,7 @@ impl<S: Read + Write + OpenStream + Drop, R: Readiness<S>> Server<S, R> {
     /// server.set_per_peer(1);
     /// listener.add(&first)?;
     /// listener.add(&second)?;
-    /// server.round(alloc, &listener, &mut NoLog);
+    /// server.round(alloc, &listener, &mut NotKept, &mut NoLog);
     /// assert!(rt; server.connections() == 1);
     /// ```
     #[tactic(auto, using(crate::proofs::Rules::rounds))]

@@ -2,9 +2,10 @@
 ghost use Rattle.std.specs.Prelude.{◌≡◌, ◌≤◌, ◌⊎◌, ℕ, Some, nat_eq};
 ghost use Rattle.indexmap.specs.IndexMap.{get};
 ghost use Rattle.relay_event_loop.specs.Advances.{KeepsFewer};
-ghost use Rattle.relay_event_loop.specs.Connections.{connections_of, limit_of, made_by};
+ghost use Rattle.relay_event_loop.specs.Connections.{connections_of, limit_of, made_by, hub_of};
 ghost use Rattle.relay_event_loop.specs.Index.{GainsOwn};
 ghost use Rattle.relay_event_loop.specs.Rounds.{RoundsOf};
+ghost use Rattle.relay_hub.specs.Shed.{shed};
 
 use super::Server;
 use super::queueing::uncount_writer;
@@ -53,7 +54,7 @@ impl<S: Read + Write + OpenStream + Drop, R: Readiness<S>> Server<S, R> {
     /// let hub = Hub::new(alloc, 1, 1, 64, 32).ok()?;
     /// let mut server = Server::new(alloc, hub, ScriptedReadiness::of(&script), 1_000_000);
     /// listener.add(&wire)?;
-    /// server.round(alloc, &listener, &mut NoLog);
+    /// server.round(alloc, &listener, &mut NotKept, &mut NoLog);
     /// server.end(alloc, &mut NoLog);
     /// assert!(rt; server.connections() == 0);
     /// ```
@@ -90,7 +91,7 @@ impl<S: Read + Write + OpenStream + Drop, R: Readiness<S>> Server<S, R> {
             return;
         };
         turn.cause = turn.cause.and(Some(cause));
-        self.finish_turn(key, before, &turn, log);
+        self.finish_turn(alloc, key, before, &turn, log);
     }
 
     /// Logs what a turn did to a connection, queues those whom its text told something, and drops
@@ -98,6 +99,7 @@ impl<S: Read + Write + OpenStream + Drop, R: Readiness<S>> Server<S, R> {
     #[tactic(auto, using(crate::proofs::Rules::advances))]
     pub(super) fn finish_turn<J: ConnectionLog>(
         &mut self,
+        alloc: Global,
         key: usize,
         before: Stage,
         turn: &Turn,
@@ -106,7 +108,7 @@ impl<S: Read + Write + OpenStream + Drop, R: Readiness<S>> Server<S, R> {
         ensures { KeepsFewer S.remaining S.contents self.old self.new }
     {
         self.count_output(key, turn);
-        self.note_events(key, turn, log);
+        self.note_events(alloc, key, turn, log);
         if turn.has_received() {
             self.queue_told(key, turn);
         }
@@ -210,13 +212,19 @@ impl<S: Read + Write + OpenStream + Drop, R: Readiness<S>> Server<S, R> {
         first
     }
 
-    /// Notes the session that a turn opened or closed, or why the hub opened none.
+    /// Notes the session that a turn opened or closed, or why the hub opened none. If that was for
+    /// want of a place, one is made.
     #[tactic(auto, using(crate::proofs::Rules::advances))]
-    fn note_events<J: ConnectionLog>(&mut self, key: usize, turn: &Turn, log: &mut J)
+    fn note_events<J: ConnectionLog>(&mut self, alloc: Global, key: usize, turn: &Turn, log: &mut J)
         ensures { KeepsFewer S.remaining S.contents self.old self.new }
     {
         match (session_event(turn), turn.fault) {
-            (_, Some(fault)) => self.note_fault(key, fault),
+            (_, Some(fault)) => {
+                self.note_fault(key, fault);
+                if fault == OpenFault::RoomsFull {
+                    self.make_room(alloc, log);
+                }
+            }
             (Some(Event::Open { room, .. }), None) => {
                 let index = self.room_index_of(key);
                 self.note_opened(key, room.as_str(), index);
@@ -262,9 +270,8 @@ impl<S: Read + Write + OpenStream + Drop, R: Readiness<S>> Server<S, R> {
             return;
         };
         if let Some(index) = connection.room_index() {
-            self.vacancies.empty.note_left(index, self.seconds);
+            self.vacancies.note_left(index, self.seconds);
         }
-        self.vacancies.is_check_due = true;
     }
 
     /// Puts the session of a connection, if it has one, into the index. Without memory the index
@@ -279,11 +286,8 @@ impl<S: Read + Write + OpenStream + Drop, R: Readiness<S>> Server<S, R> {
             return true;
         };
         index_session(&mut self.sessions, connection.link.session(), key);
-        self.vacancies.is_check_due = true;
         match connection.room_index() {
-            Some(index) => {
-                self.rooms.admit(index).is_ok() && self.vacancies.empty.admit(index).is_ok()
-            }
+            Some(index) => self.rooms.admit(index).is_ok() && self.vacancies.admit(index).is_ok(),
             None => true,
         }
     }
@@ -331,7 +335,8 @@ impl<S: Read + Write + OpenStream + Drop, R: Readiness<S>> Server<S, R> {
     /// at most.
     #[tactic(auto, using(crate::proofs::Rules::advances))]
     pub(super) fn shed<J: ConnectionLog>(&mut self, log: &mut J)
-        ensures { KeepsFewer S.remaining S.contents self.old self.new }
+        ensures keeps { KeepsFewer S.remaining S.contents self.old self.new }
+        ensures hub { hub_of self.new ≡ shed (hub_of self.old) }
     {
         self.hub.shed();
         if self.rounds >= self.next_shed_entry {

@@ -1,9 +1,9 @@
 //! The room that is forgotten when there are as many as may be.
 //!
-//! A new room replaces one in which nobody is and whose document is `null`. If the server
-//! forgets rooms, it sees to it that there is one: of the rooms in which nobody is, the one that
-//! has been empty for the longest time begins anew. It looks for one only after a session was
-//! opened or closed, since nothing else begins a room or leaves one empty.
+//! A new room replaces one in which nobody is and whose document is `null`. If there is none,
+//! whoever asks for a new room is refused. A server that forgets rooms forgets one then: of those
+//! in which nobody is, the one that has been empty for the longest time begins anew. So whoever
+//! asks again finds a place, and no document is forgotten as long as no place is asked for.
 ghost use Rattle.std.specs.Prelude.{◌≡◌, false, true};
 ghost use Rattle.relay_event_loop.specs.Advances.{KeepsFewer};
 ghost use Rattle.relay_event_loop.specs.Connections.{connections_of, limit_of, hub_of, made_by};
@@ -25,12 +25,12 @@ use std::net::OpenStream;
 pub(super) struct RoomVacancies {
     /// Since when they are empty.
     pub empty: EmptyRooms,
+    /// In which order they were left: the number of the leaving in place of the second.
+    order: EmptyRooms,
+    /// The number of times that a session left a room.
+    leavings: u64,
     /// True if the server forgets rooms.
     pub is_enabled: bool,
-    /// True if a session was opened or closed since a room was last sought.
-    pub is_check_due: bool,
-    /// The index of the room that was forgotten last, and the revision at which it began anew.
-    vacated: Option<(usize, u64)>,
 }
 
 impl RoomVacancies {
@@ -40,17 +40,34 @@ impl RoomVacancies {
     {
         RoomVacancies {
             empty: EmptyRooms::new(alloc),
+            order: EmptyRooms::new(alloc),
+            leavings: 0,
             is_enabled: false,
-            is_check_due: false,
-            vacated: None,
         }
+    }
+
+    /// Takes the memory for the room at an index. Without it the room counts as left first.
+    pub fn admit(&mut self, index: usize) -> Result<(), AllocError>
+        ensures { self.new.is_enabled ≡ self.old.is_enabled }
+    {
+        self.empty.admit(index)?;
+        self.order.admit(index)
+    }
+
+    /// Notes that a session left the room at an index, in this second.
+    pub fn note_left(&mut self, index: usize, second: u64)
+        ensures { self.new.is_enabled ≡ self.old.is_enabled }
+    {
+        self.leavings = self.leavings.saturating_add(1);
+        self.empty.note_left(index, second);
+        self.order.note_left(index, self.leavings);
     }
 }
 
 impl<S: Read + Write + OpenStream + Drop, R: Readiness<S>> Server<S, R> {
-    /// From now on, if there are as many rooms as may be, the room that has been empty for the
-    /// longest time is forgotten after a round ([`relay_hub::Hub::forget`]), so that a session in
-    /// another one can be opened.
+    /// From now on, once a new room is refused since there are as many as may be, the room that has
+    /// been empty for the longest time is forgotten ([`relay_hub::Hub::forget`]), so that the next
+    /// one who asks finds a place.
     #[tactic(auto, using(crate::proofs::Rules::rounds))]
     pub fn forget_rooms(&mut self)
         ensures hub { hub_of self.new ≡ hub_of self.old }
@@ -65,47 +82,27 @@ impl<S: Read + Write + OpenStream + Drop, R: Readiness<S>> Server<S, R> {
         ensures output { output_limit_of self.new ≡ output_limit_of self.old }
     {
         self.vacancies.is_enabled = true;
-        self.vacancies.is_check_due = true;
     }
 
-    /// Forgets the room that has been empty for the longest time, if the server forgets rooms, and
-    /// none is left for another name. Out of memory leaves that to the next round.
+    /// Forgets the room that has been empty for the longest time, if the server forgets rooms: a
+    /// new room was refused just now. As long as a will is left that is no sign that a place is
+    /// needed, since none is given then. Out of memory leaves all rooms as they are.
     #[tactic(auto, using(crate::proofs::Rules::advances))]
     pub(super) fn make_room<J: ConnectionLog>(&mut self, alloc: Global, log: &mut J)
         ensures { KeepsFewer S.remaining S.contents self.old self.new }
     {
-        if !self.vacancies.is_enabled || !self.vacancies.is_check_due || self.hub.has_wills() {
-            return;
-        }
-        self.vacancies.is_check_due = false;
-        if self.is_room_left() {
+        if !self.vacancies.is_enabled || self.hub.has_wills() {
             return;
         }
         if let Some(index) = self.longest_empty() {
             if self.forget_at(alloc, index).is_err() {
-                self.vacancies.is_check_due = true;
                 self.shed(log);
             }
         }
     }
 
-    /// True if there is a room for another name, as far as it is known: fewer began than may be, or
-    /// nobody has come to the one that was forgotten last.
-    fn is_room_left(&self) -> bool {
-        let last = self.hub.config().rooms.saturating_sub(1) as usize;
-        if self.hub.room_at(last).is_none() {
-            return true;
-        }
-        let Some((index, began)) = self.vacancies.vacated else {
-            return false;
-        };
-        match self.hub.room_at(index) {
-            Some(room) => room.sessions == 0 && room.revision == began,
-            None => false,
-        }
-    }
-
-    /// The index of the room that has been empty for the longest time.
+    /// The index of the room that has been empty for the longest time: of those that nobody has
+    /// left yet, as at the start, the first.
     fn longest_empty(&self) -> Option<usize> {
         let mut found = None;
         let mut least = u64::MAX;
@@ -113,7 +110,7 @@ impl<S: Read + Write + OpenStream + Drop, R: Readiness<S>> Server<S, R> {
             let Some(room) = self.hub.room_at(index) else {
                 return found;
             };
-            let left = self.vacancies.empty.since(index);
+            let left = self.vacancies.order.since(index);
             if room.sessions == 0 && left < least {
                 found = Some(index);
                 least = left;
@@ -132,10 +129,8 @@ impl<S: Read + Write + OpenStream + Drop, R: Readiness<S>> Server<S, R> {
         };
         let name = String::from_str(alloc, room.name)?;
         match self.hub.forget(alloc, name.as_str()) {
-            Ok(began) => self.vacancies.vacated = Some((index, began)),
-            Err(ForgetFault::NoMemory) => return Err(AllocError),
-            Err(_) => {}
+            Err(ForgetFault::NoMemory) => Err(AllocError),
+            _ => Ok(()),
         }
-        Ok(())
     }
 }

@@ -1,12 +1,16 @@
 //! The connections that are read in a round, and their order.
+ghost use Rattle.std.specs.Prelude.{◌≡◌, true, IfOk, IfSome};
 ghost use Rattle.relay_event_loop.specs.Advances.{KeepsFewer};
+ghost use Rattle.relay_event_loop.specs.Connections.{tells_kept};
+ghost use Rattle.relay_link.specs.Adds.{draws};
 
 use super::Server;
 use crate::connection_log::ConnectionLog;
-use relay_link::{Turn, Watchers};
+use crate::room_keeper::RoomKeeper;
+use relay_link::{Stage, Turn, Watchers};
 use relay_readiness::Readiness;
 use relay_schedule::{Debt, Output, Spending};
-use std::alloc::Global;
+use std::alloc::{AllocError, Global};
 use std::io::{Read, Write};
 use std::net::OpenStream;
 
@@ -26,6 +30,13 @@ const BYTES_READ: u64 = 100;
 /// The number of messages that a read turn draws: the reply to its text. Whatever else it comes to
 /// is drawn by a write turn, since it may be long.
 const READ_DRAWS: u64 = 1;
+
+/// A read turn of a link, and the stage in which the link was before it.
+#[derive(Drop)]
+struct ReadTurn {
+    before: Stage,
+    turn: Turn,
+}
 
 impl<S: Read + Write + OpenStream + Drop, R: Readiness<S>> Server<S, R> {
     /// Reads from the connections with credit, in passes, until a pass reads no text or the round
@@ -73,17 +84,18 @@ impl<S: Read + Write + OpenStream + Drop, R: Readiness<S>> Server<S, R> {
 
     /// Reads from the connections that owe, in order, does wills, and sends what came of it.
     #[tactic(auto, using(crate::proofs::Rules::advances))]
-    pub(super) fn serve_owing<J: ConnectionLog>(
+    pub(super) fn serve_owing<K: RoomKeeper, J: ConnectionLog>(
         &mut self,
         alloc: Global,
         before: Spending,
+        keeper: &mut K,
         log: &mut J,
     )
         ensures { KeepsFewer S.remaining S.contents self.old self.new }
     {
         let read = self.read_those_owing(alloc, before, log);
         if self.do_wills(alloc, read, log) != before {
-            self.write(alloc, log);
+            self.tell(alloc, keeper, log);
         }
     }
 
@@ -161,12 +173,18 @@ impl<S: Read + Write + OpenStream + Drop, R: Readiness<S>> Server<S, R> {
     fn read_at<J: ConnectionLog>(&mut self, alloc: Global, key: usize, log: &mut J) -> u64
         ensures { KeepsFewer S.remaining S.contents self.old self.new }
     {
-        let Some(draws) = self.read_turn_draws(key) else {
-            self.skip(key);
-            return 0;
-        };
         self.renew_rules();
-        let counted = self.read_link(alloc, key, draws, log);
+        let counted = match self.read_turn(alloc, key) {
+            Ok(Some(read)) => self.finish_read(alloc, key, read, log),
+            Ok(None) => {
+                self.skip(key);
+                return 0;
+            }
+            Err(AllocError) => {
+                self.shed(log);
+                TURN_COST
+            }
+        };
         let cost = self.charge(key, counted);
         self.queue(key);
         cost
@@ -224,54 +242,80 @@ impl<S: Read + Write + OpenStream + Drop, R: Readiness<S>> Server<S, R> {
     }
 
     /// The number of messages that a read turn of a connection may draw now: one, or none if a long
-    /// snapshot is due. `None` if it must not be read now: a waiting reply can be sent first,
-    /// its room may not be read ahead, or there is nothing to read.
-    fn read_turn_draws(&self, key: usize) -> Option<u64> {
+    /// snapshot is due, or nobody is told what is not kept. `None` if it must not be read now: a
+    /// waiting reply can be sent first, its room may not be read ahead, or there is nothing to
+    /// read. Replies that wait to be kept are no reason: so one commit keeps several texts.
+    fn read_turn_draws(&self, key: usize) -> Option<u64>
+        ensures untold { tells_kept self.now ≡ true → IfSome result (λ draws. draws ≡ 0) }
+    {
         let connection = self.connections.get(key)?;
         let may_read_ahead = match connection.room_index() {
             Some(index) => self.rooms.may_read_ahead(index),
             None => true,
         };
-        let has_sendable_reply = connection.replies(&self.hub) > 0
+        let has_sendable_reply = !self.tells_kept
+            && connection.replies(&self.hub) > 0
             && connection.has_output(&self.hub, Output::Waiting);
         if has_sendable_reply || !may_read_ahead || !connection.may_read(&self.hub) {
             return None;
         }
-        if self.has_no_long_snapshot(connection) {
+        if !self.tells_kept && self.has_no_long_snapshot(connection) {
             return Some(READ_DRAWS);
         }
         Some(0)
     }
 
-    /// Gives a link a read turn. Returns its cost as it is counted.
+    /// Gives the link of a connection a read turn, if it may be read. If nobody is told what is not
+    /// kept, the turn draws nothing.
     #[tactic(auto, using(crate::proofs::Rules::advances))]
-    fn read_link<J: ConnectionLog>(
+    fn read_turn(&mut self, alloc: Global, key: usize) -> Result<Option<ReadTurn>, AllocError>
+        ensures keeps { KeepsFewer S.remaining S.contents self.old self.new }
+        ensures untold { tells_kept self.old ≡ true → IfOk result (λ read.
+            IfSome read (λ read. draws read.turn.events.items ≡ 0)) }
+    {
+        let Some(draws) = self.read_turn_draws(key) else {
+            return Ok(None);
+        };
+        let Some(connection) = self.connections.get_mut(key) else {
+            return Ok(None);
+        };
+        let before = connection.link.stage();
+        let Ok(turn) = connection
+            .link
+            .read_turn(alloc, &self.rules, &mut self.hub, draws)
+        else {
+            return Err(AllocError);
+        };
+        Ok(Some(ReadTurn { before, turn }))
+    }
+
+    /// Ends a read turn. Returns its cost as it is counted.
+    #[tactic(auto, using(crate::proofs::Rules::advances))]
+    fn finish_read<J: ConnectionLog>(
         &mut self,
         alloc: Global,
         key: usize,
-        draws: u64,
+        read: ReadTurn,
         log: &mut J,
     ) -> u64
+        ensures { KeepsFewer S.remaining S.contents self.old self.new }
+    {
+        let ReadTurn { before, mut turn } = read;
+        let cost = cost_of(&turn, self.note_read(key));
+        self.wanted.note(turn.turned_away.take());
+        self.finish_turn(alloc, key, before, &turn, log);
+        cost
+    }
+
+    /// Notes that a connection had a read turn. Returns the number of bytes that were read.
+    #[tactic(auto, using(crate::proofs::Rules::advances))]
+    fn note_read(&mut self, key: usize) -> u64
         ensures { KeepsFewer S.remaining S.contents self.old self.new }
     {
         let Some(connection) = self.connections.get_mut(key) else {
             return 0;
         };
-        let before = connection.link.stage();
-        let Ok(mut turn) = connection
-            .link
-            .read_turn(alloc, &self.rules, &mut self.hub, draws)
-        else {
-            self.shed(log);
-            return TURN_COST;
-        };
-        let read = connection.readiness.take_read();
-        let cost = cost_of(&turn, read);
-        connection.has_sent |= read > 0;
-        connection.read_pending = connection.readiness.may_go_on();
-        self.wanted.note(turn.turned_away.take());
-        self.finish_turn(key, before, &turn, log);
-        cost
+        connection.note_read()
     }
 }
 

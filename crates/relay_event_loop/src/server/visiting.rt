@@ -10,8 +10,8 @@ ghost use Rattle.relay_event_loop.specs.Visited.{Visited};
 use super::Server;
 use crate::connection_log::ConnectionLog;
 use relay_access::Access;
-use relay_hub::Text;
-use relay_link::Visit;
+use relay_hub::{OpenFault, Text};
+use relay_link::{Visit, VisitOutcome};
 use relay_readiness::Readiness;
 use std::alloc::{AllocError, Global};
 use std::io::{Read, Write};
@@ -35,7 +35,7 @@ impl<S: Read + Write + OpenStream + Drop, R: Readiness<S>> Server<S, R> {
     {
         let bytes = text.as_str().len() as u64;
         let made = self.make_visit(alloc, room, access, text);
-        self.note_visit(&made, bytes, log);
+        self.note_visit(alloc, &made, bytes, log);
         made
     }
 
@@ -56,10 +56,12 @@ impl<S: Read + Write + OpenStream + Drop, R: Readiness<S>> Server<S, R> {
         Visit::make(alloc, &mut self.hub, room, access, text)
     }
 
-    /// Notes a visit, whose text has so many bytes.
+    /// Notes a visit, whose text has so many bytes. If it was refused for want of a place, one is
+    /// made.
     #[tactic(auto, using(crate::proofs::Rules::advances))]
     fn note_visit<J: ConnectionLog>(
         &mut self,
+        alloc: Global,
         made: &Result<Visit, AllocError>,
         bytes: u64,
         log: &mut J,
@@ -77,6 +79,9 @@ impl<S: Read + Write + OpenStream + Drop, R: Readiness<S>> Server<S, R> {
             self.texts_heard = self.texts_heard.saturating_add(1);
             self.queue_after_visit_or_will(bytes);
         }
+        if visit.outcome == VisitOutcome::Refused(OpenFault::RoomsFull) {
+            self.make_room(alloc, log);
+        }
         if visit.outcome.lacked_memory() {
             self.shed(log);
         }
@@ -88,9 +93,8 @@ impl<S: Read + Write + OpenStream + Drop, R: Readiness<S>> Server<S, R> {
     fn note_visited<J: ConnectionLog>(&mut self, index: usize, log: &mut J)
         ensures { KeepsFewer S.remaining S.contents self.old self.new }
     {
-        self.vacancies.is_check_due = true;
-        let admitted = self.vacancies.empty.admit(index);
-        self.vacancies.empty.note_left(index, self.seconds);
+        let admitted = self.vacancies.admit(index);
+        self.vacancies.note_left(index, self.seconds);
         if admitted.is_err() {
             self.shed(log);
         }

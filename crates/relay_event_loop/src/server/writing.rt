@@ -173,7 +173,7 @@ impl<S: Read + Write + OpenStream + Drop, R: Readiness<S>> Server<S, R> {
             self.shed(log);
             return Written::NOTHING;
         };
-        self.finish_turn(key, before, &turn, log);
+        self.finish_turn(alloc, key, before, &turn, log);
         Written {
             drawn: turn.drawn,
             counted: turn.cost.saturating_add(TURN_COST),

@@ -21,13 +21,13 @@ returns g c = (
 pub returns-in_default-end : goal.returns-in_default-end
 returns-in_default-end g c = (
   (
-    c.shed.ensures.0.0,
+    c.shed.ensures.keeps.0.0,
     advances_then (unmoved c.args.self.now.connections c.args.key c.in-Some.connection.now
         _ (sym c.in-Some.ensures.value) _ _ c.in_default-end.ensures.hub_unchanged
-        c.in_default-end.ensures.unchanged) c.shed.ensures.0.1,
+        c.in_default-end.ensures.unchanged) c.shed.ensures.keeps.0.1,
   ),
-  c.shed.ensures.1,
-  no_more_then _ _ _ c.shed.ensures.2
+  c.shed.ensures.keeps.1,
+  no_more_then _ _ _ c.shed.ensures.keeps.2
       (no_more c.args.self.now.connections c.args.key c.in-Some.connection.now _
       (sym c.in-Some.ensures.value)),
 )

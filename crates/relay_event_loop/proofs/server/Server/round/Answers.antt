@@ -7,6 +7,5 @@ returns-clause-rounds g c =
     let begun = advances_then c.poll.ensures.0.1 c.relieve.ensures.0.1 in
     let read =
     advances_then (advances_then begun c.accept.ensures.0.1) c.read-spending.ensures.0.1 in
-    let written =
-    advances_then (advances_then read c.write.ensures.0.1) c.serve_owing.ensures.0.1 in
-    rounds_of (advances_then written c.make_room.ensures.0.1)
+    let written = advances_then read c.tell.ensures.keeps.0.1 in
+    rounds_of (advances_then written c.serve_owing.ensures.0.1)

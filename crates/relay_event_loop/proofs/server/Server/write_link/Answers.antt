@@ -26,13 +26,13 @@ returns g c = (
 pub returns-in_default-write_turn : goal.returns-in_default-write_turn
 returns-in_default-write_turn g c = (
   (
-    c.shed.ensures.0.0,
+    c.shed.ensures.keeps.0.0,
     advances_then (unmoved c.args.self.now.connections c.args.key c.in-Some.connection.now
         _ (sym c.in-Some.ensures.value) _ _ c.in_default-write_turn.ensures.hub_unchanged
-        c.in_default-write_turn.ensures.unchanged) c.shed.ensures.0.1,
+        c.in_default-write_turn.ensures.unchanged) c.shed.ensures.keeps.0.1,
   ),
-  c.shed.ensures.1,
-  no_more_then _ _ _ c.shed.ensures.2
+  c.shed.ensures.keeps.1,
+  no_more_then _ _ _ c.shed.ensures.keeps.2
       (no_more c.args.self.now.connections c.args.key c.in-Some.connection.now _
       (sym c.in-Some.ensures.value)),
 )

@@ -4,4 +4,6 @@ use Rattle.relay_event_loop.proofs.server.administering.Server+S+AdminReadiness+
 
 pub returns-clause-rounds : goal.returns-clause-rounds
 returns-clause-rounds g c =
-    rounds_of (advances_then c.run_until_stop-done.ensures.makes.0.1 c.end.ensures.rounds.advances)
+    let ended =
+    advances_then c.run_until_stop-done.ensures.makes.0.1 c.end.ensures.rounds.advances in
+    rounds_of (advances_then ended c.keep.ensures.keeps.0.1)
