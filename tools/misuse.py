@@ -5,6 +5,7 @@ it to the program what a value may be. tests/help compares both."""
 import re
 
 OPTION = re.compile(r"^ +(?:-h, )?(--[a-z-]+)(?: (<[A-Z]+>))?(?= |$)", re.M)
+PLACE = re.compile(r" (?:<([A-Z]+)>|\[([A-Z]+)\])")
 MORE = "For more information, try '--help'.\n"
 
 
@@ -15,61 +16,82 @@ def misuse_of(job, words, printed):
 
 
 class Job:
-    """A job's options, each as a usage shows it, and those that have to be given."""
+    """A job's options, each as a usage shows it, and those that have to be given; and behind them
+    the words without a name that it takes, of which the first few have to be given."""
 
     def __init__(self, name, printed):
         self.name, self.usage = name, re.search("^Usage: .*$", printed, re.M)[0]
         self.options = {it: f"{it} {value}".strip() for it, value in OPTION.findall(printed)}
         self.needed = re.findall("--[a-z-]+", self.usage)
+        usage = self.usage.replace(" [OPTIONS]", "")
+        for option in self.options.values():
+            usage = usage.replace(f" {option}", "")
+        places = PLACE.findall(usage)
+        self.places = [needed or other for needed, other in places]
+        self.needed_places = sum(bool(needed) for needed, _ in places)
 
     def misuse_of(self, words):
-        given, waiting = [], None
+        given, taken, waiting = [], 0, None
         for place, word in enumerate(words):
             name = "--help" if word.startswith("-h") else word.partition("=")[0]
             if word == "--":
                 rest = words[place + 1 :]
-                return self.unexpected(rest[0]) if rest else self.lack(given, waiting)
+                free = len(self.places) - taken
+                if len(rest) > free:
+                    return self.unexpected(rest[free])
+                return self.lack(given, taken + len(rest), waiting)
             if word == "-" or not word.startswith("-"):
-                if not waiting:
+                if waiting:
+                    given, waiting = [*given, waiting], None
+                elif taken < len(self.places):
+                    taken += 1
+                else:
                     return self.unexpected(word)
-                given, waiting = [*given, waiting], None
             elif name not in self.options:
-                is_long = word.startswith("--")
-                return self.unknown(name, given) if is_long else self.unexpected(word[:2])
+                if word.startswith("--"):
+                    return self.unknown(name, given, taken)
+                return self.unexpected(word[:2], tip=self.tip_of_value(word[:2]))
             elif waiting:
-                return self.lack(given, waiting)
+                return self.lack(given, taken, waiting)
             elif name == "--help":
                 return None
             elif "<" in self.options[name] and "=" not in word:
                 waiting = name
             else:
                 given.append(name)
-        return self.lack(given, waiting)
+        return self.lack(given, taken, waiting)
 
-    def unknown(self, name, given):
+    def unknown(self, name, given, taken):
         alike = {it: similarity(name[2:], it[2:]) for it in self.options}
         likely = max(reversed(list(alike)), key=alike.get)
         if alike[likely] <= 0.7:
-            return self.unexpected(name, given)
+            return self.unexpected(name, given, taken, self.tip_of_value(name))
         tip = f"  tip: a similar argument exists: '{likely}'\n\n"
-        return self.unexpected(name, [*given, likely], tip)
+        return self.unexpected(name, [*given, likely], taken, tip)
 
-    def unexpected(self, word, given=(), tip=""):
-        return f"error: unexpected argument '{word}' found\n\n{tip}{self.usage_with(given)}{MORE}"
+    def tip_of_value(self, word):
+        return f"  tip: to pass '{word}' as a value, use '-- {word}'\n\n" if self.places else ""
 
-    def lack(self, given, waiting):
-        """The complaint that a value lacks, or else an option that has to be given."""
+    def unexpected(self, word, given=(), taken=0, tip=""):
+        usage = self.usage_with(given, taken)
+        return f"error: unexpected argument '{word}' found\n\n{tip}{usage}{MORE}"
+
+    def lack(self, given, taken, waiting):
+        """The complaint that a value lacks, or else what has to be given."""
         if waiting:
             option = self.options[waiting]
             return f"error: a value is required for '{option}' but none was supplied\n\n{MORE}"
         lacks = [f"  {self.options[it]}\n" for it in self.needed if it not in given]
+        lacks += [f"  <{it}>\n" for it in self.places[taken : self.needed_places]]
         fault = "error: the following required arguments were not provided:\n" + "".join(lacks)
-        return f"{fault}\n{self.usage_with([*self.needed, *given])}{MORE}" if lacks else None
+        return f"{fault}\n{self.usage_with([*self.needed, *given], taken)}{MORE}" if lacks else None
 
-    def usage_with(self, given):
-        """The usage for whoever gave these options."""
+    def usage_with(self, given, taken):
+        """The usage for whoever gave these options, and so many words without a name."""
         shown = [self.options[it] for it in dict.fromkeys([*self.needed, *given])]
-        usage = " ".join(["Usage: relay", self.name, *shown]) if given else self.usage
+        sure = max(taken, self.needed_places)
+        shown += [f"<{it}>" if at < sure else f"[{it}]" for at, it in enumerate(self.places)]
+        usage = " ".join(["Usage: relay", self.name, *shown]) if given or taken else self.usage
         return f"{usage}\n\n"
 
 

@@ -17,7 +17,7 @@ from sources import CODE, CRATES, OUT, WHOLE, Sources, below
 TRIED = OUT / "tried"
 # What the program prints of itself, for whoever asks before it is built. tests/help compares it.
 HELP = ROOT / "tools/help"
-JOBS = ("script", "loop", "follow", "serve")
+JOBS = ("script", "loop", "follow", "serve", "store")
 LAUNCHER = """\
 ./relay builds the program before it runs a job, if a source changed:
   ./relay JOB..           proves all first: 25 minutes or more from nothing

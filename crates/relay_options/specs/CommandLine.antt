@@ -2,25 +2,28 @@
 -- words ask for.
 use Rattle.std.specs.Prelude.{ℕ, ◌≡◌, ◌≢◌, ◌&&◌, ◌^◌, ◌⊎◌, ⊤, Bool, true, false, List, [], ◌∷◌}
 use Rattle.std.specs.Prelude.{Option, Some, None, option_and_then, if◌then◌else◌, codes, length}
-use Rattle.std.specs.Prelude.{map, nat_lt, string_bytes, unwrap_or}
+use Rattle.std.specs.Prelude.{map, nat_lt, option_map, string_bytes, unwrap_or}
 use Rattle.std.specs.Option.{option_or}
 use Rattle.std.specs.List.{list_all}
 use Rattle.std.specs.Char.{digit_value}
 use Rattle.std.specs.Net.Grammar.{IsIpText}
 use Rattle.std.specs.Str.Parse.{digits_value, without_leading_plus}
 use Rattle.std.specs.declared.net.ip_addr.IpAddr.{IpAddr}
-use Rattle.clap.specs.Words.{App, IsAmong, Kinds, Row, Rule, Text, all_of, fault_of, new_app}
-use Rattle.clap.specs.Words.{new_rule, one_of, subcommand_of, with_rule, with_subcommand}
+use Rattle.clap.specs.Words.{App, IsAmong, Kinds, Row, Rule, Text, all_of, fault_of, first_of}
+use Rattle.clap.specs.Words.{new_app, new_rule, one_of, subcommand_of, with_rule, with_subcommand}
 use Rattle.clap.specs.declared.builder.ArgAction.TheVariants.{Append, Set, SetTrue}
 use Rattle.clap.specs.declared.builder.ValueParser.TheVariants.{Unsigned}
 use Rattle.clap.specs.declared.error.ErrorKind.{ErrorKind}
 use Rattle.clap.specs.declared.error.ErrorKind.TheVariants.{DisplayHelp, DisplayVersion}
 use Rattle.clap.specs.declared.error.ErrorKind.TheVariants.{OutOfMemory}
 use Rattle.relay_options.specs.declared.job.Job.{Job}
-use Rattle.relay_options.specs.declared.job.Job.TheVariants.{Script, Loop, Follow, Serve}
+use Rattle.relay_options.specs.declared.job.Job.TheVariants.{Script, Loop, Follow, Serve, Store}
 use Rattle.relay_options.specs.declared.job.Stop.{Stop}
 use Rattle.relay_options.specs.declared.job.Stop.TheVariants.{Help, Misuse, NoMemory}
 use Rattle.relay_options.specs.declared.settings.Settings.{Settings}
+use Rattle.relay_options.specs.declared.store_job.StoreJob.{StoreJob}
+use Rattle.relay_options.specs.declared.store_job.StoreTool.{StoreTool}
+use Rattle.relay_options.specs.declared.store_job.StoreTool.TheVariants as tool
 use Rattle.relay_limits.specs.declared.TheConstants.{DEFAULT_REVISIONS, DEFAULT_ROOMS}
 use Rattle.relay_limits.specs.declared.TheConstants.{DEFAULT_SESSIONS, DEFAULT_WAITING_PATCHES}
 use Rattle.relay_limits.specs.declared.TheConstants.{MAX_COUNT, MAX_REVISIONS, MAX_ROOMS}
@@ -100,6 +103,26 @@ origin_option = record (new_rule (codes "origin")) {
   value_names = 1;
 }
 
+-- an option that takes the name of a file
+abbrev pub store_option : Rule
+store_option = record (new_rule (codes "store")) {
+  long = Some (codes "store");
+  action = Some Set;
+  value_names = 1;
+}
+
+-- the same, for a job that needs one
+abbrev pub file_option : Rule
+file_option = record store_option { required = true }
+
+-- arguments without a name: the tool for a store, and the room that it is for
+
+abbrev pub tool_argument : Rule
+tool_argument = record (new_rule (codes "tool")) { value_names = 1; required = true }
+
+abbrev pub room_argument : Rule
+room_argument = record (new_rule (codes "room")) { value_names = 1 }
+
 -- flags: they take no value
 
 abbrev pub log_option : Rule
@@ -138,23 +161,32 @@ scripted name = with_script_options (new_app name)
 abbrev pub with_server_options : App → App
 with_server_options command =
     with_rule (with_rule (with_rule (with_rule (with_rule (with_rule (with_rule (with_rule
-    (with_rule (with_rule (with_weights
+    (with_rule (with_rule (with_rule (with_weights
     (codes "262144" ∷ []) (codes "65536" ∷ []) (codes "1048576" ∷ []) (codes "16384" ∷ [])
     (with_rule (with_settings command) (epoch_option [])))
     listen_option) port_option) admin_option) rounds_option) log_option) forget_rooms_option)
-    closed_option) output_option) origin_option) per_peer_option
+    closed_option) output_option) origin_option) per_peer_option) store_option
 
 abbrev pub served : Text → App
 served name = with_server_options (new_app name)
+
+-- a tool for a store
+abbrev pub with_store_options : App → App
+with_store_options command =
+    with_rule (with_rule (with_rule command tool_argument) room_argument) file_option
+
+abbrev pub storing : Text → App
+storing name = with_store_options (new_app name)
 
 -- `--version` shows a version
 abbrev pub with_version : App → App
 with_version command = record command { top = record command.top { has_version = true } }
 
 abbrev pub relay_command : App
-relay_command = with_subcommand (with_subcommand (with_subcommand (with_subcommand
+relay_command = with_subcommand (with_subcommand (with_subcommand (with_subcommand (with_subcommand
     (with_version (new_app (codes "relay"))) (scripted (codes "script")).top)
-    (scripted (codes "loop")).top) (new_app (codes "follow")).top) (served (codes "serve")).top
+    (scripted (codes "loop")).top) (new_app (codes "follow")).top) (served (codes "serve")).top)
+    (storing (codes "store")).top
 
 -- ---- what the matches of a command hold
 
@@ -174,6 +206,10 @@ pub record IsAddressIn (name : Text) (rows : List Row) (address : IpAddr) : Type
   pub text : Text
   pub given : one_of name rows ≡ Some text
   pub writes : IsIpText text address
+
+-- the text under an option's name, from the words or from its default
+abbrev pub text_in : Text → List Row → Option Text
+text_in = first_of
 
 -- the texts under an option's name, in the order of the words; none if they do not name it
 abbrev pub texts_in : Text → List Row → List Text
@@ -213,20 +249,41 @@ plain_settings = record {
   view_weight = None;
 }
 
+-- a store has an epoch of its own, so the words give none beside it
+abbrev pub HasOneEpoch : List Row → Option Text → Type 0
+HasOneEpoch rows None = ⊤
+HasOneEpoch rows (Some store) = number_in (codes "epoch") rows ≡ None
+
+-- the tool of this name, with the room that it is for, if it is for one
+abbrev pub IsToolOf : Option Text → Option Text → StoreTool → Type 0
+IsToolOf name room tool.List = (name ≡ Some (codes "list")) × (room ≡ None)
+IsToolOf name room (tool.Show shown) =
+    (name ≡ Some (codes "show")) × (room ≡ Some (string_bytes shown))
+IsToolOf name room tool.Export = (name ≡ Some (codes "export")) × (room ≡ None)
+IsToolOf name room tool.Import = (name ≡ Some (codes "import")) × (room ≡ None)
+
+-- the tool and the file that the words name
+pub record IsStoreJobIn (rows : List Row) (job : StoreJob) : Type 0 where
+  pub file : text_in (codes "store") rows ≡ Some (string_bytes job.file)
+  pub tool : IsToolOf (text_in (codes "tool") rows) (text_in (codes "room") rows) job.tool
+
 -- the job that a subcommand and its options ask for; `now` is the time, if the clock can be read
 abbrev pub IsJobOf : Text → List Row → Option ℕ → Job → Type 0
 IsJobOf name rows now (Script settings) = (name ≡ codes "script") × AreSettingsOf rows None settings
 IsJobOf name rows now (Loop settings) = (name ≡ codes "loop") × AreSettingsOf rows None settings
 IsJobOf name rows now Follow = name ≡ codes "follow"
 IsJobOf name rows now (Serve listen port admin rounds log forget_rooms closed output_mib origins
-    per_peer settings) =
+    per_peer store settings) =
     (name ≡ codes "serve") × IsAddressIn (codes "listen") rows listen
     × (number_in (codes "port") rows ≡ Some port) × (number_in (codes "admin") rows ≡ admin)
     × (number_in (codes "turns") rows ≡ Some rounds) × IsFlagIn (codes "log") rows log
     × IsFlagIn (codes "forget-rooms") rows forget_rooms × IsFlagIn (codes "closed") rows closed
     × (number_in (codes "max-output-mib") rows ≡ Some output_mib)
     × (map string_bytes origins.items ≡ texts_in (codes "origin") rows)
-    × (number_in (codes "per-peer") rows ≡ per_peer) × AreSettingsOf rows now settings
+    × (number_in (codes "per-peer") rows ≡ per_peer)
+    × (text_in (codes "store") rows ≡ option_map string_bytes store)
+    × HasOneEpoch rows (option_map string_bytes store) × AreSettingsOf rows now settings
+IsJobOf name rows now (Store job) = (name ≡ codes "store") × IsStoreJobIn rows job
 
 -- the same for what the words name, if they name a subcommand
 abbrev pub IsChosenBy : Option (Text × List Row) → Option ℕ → Job → Type 0

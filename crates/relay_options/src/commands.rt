@@ -1,10 +1,12 @@
 //! The commands of the program, and the texts of their help.
 ghost use Rattle.std.specs.Prelude.{◌≡◌, IfOk, codes};
 ghost use Rattle.clap.specs.Words.{app_of, new_app};
-ghost use Rattle.relay_options.specs.CommandLine.{relay_command, scripted, served, with_version};
+ghost use Rattle.relay_options.specs.CommandLine.{relay_command, scripted, served, storing};
+ghost use Rattle.relay_options.specs.CommandLine.{with_version};
 
 use crate::hub_options::with_script_options;
 use crate::server_options::with_server_options;
+use crate::store_options::with_store_options;
 use clap::Command;
 use std::alloc::{AllocError, Global};
 
@@ -41,13 +43,24 @@ const SERVE_ABOUT: &str =
 
 const SERVE_EXAMPLE: &str = "Example, on a port that the system chooses:\n\n  \
      relay serve --port 0\n\n\
-     A client connects to ws://127.0.0.1:PORT/rooms/ROOM. Documents end with the program.";
+     A client connects to ws://127.0.0.1:PORT/rooms/ROOM. Documents end with the program, unless \
+     --store names a file that keeps them.";
 
 const FOLLOW_ABOUT: &str =
     "Hears the relay's messages, one a line, and tells after each what its client holds";
 
 const FOLLOW_EXAMPLE: &str =
     "Example:\n\n  echo '{\"kind\":\"snapshot\",\"rev\":1,\"view\":[[1]]}' | relay follow";
+
+const STORE_ABOUT: &str =
+    "Lists, shows, exports or imports the rooms of a store that no relay has open";
+
+const STORE_EXAMPLE: &str = "Examples:\n\n  \
+     relay store list --store relay.db\n  \
+     relay store show --store relay.db board\n  \
+     relay store export --store relay.db > relay.jsonl\n  \
+     relay store import --store new.db < relay.jsonl\n\n\
+     import makes the file, or takes one whose store keeps nothing. The others make no file.";
 
 pub(crate) fn relay<'a>(alloc: Global) -> Result<Command<'a>, AllocError>
     ensures { IfOk result (λ r. app_of r ≡ relay_command) }
@@ -56,7 +69,8 @@ pub(crate) fn relay<'a>(alloc: Global) -> Result<Command<'a>, AllocError>
         .subcommand(script(alloc)?)?
         .subcommand(looped(alloc)?)?
         .subcommand(follow(alloc))?
-        .subcommand(serve(alloc)?)?;
+        .subcommand(serve(alloc)?)?
+        .subcommand(store(alloc)?)?;
     Ok(relay)
 }
 
@@ -103,4 +117,13 @@ fn serve<'a>(alloc: Global) -> Result<Command<'a>, AllocError>
         .about(SERVE_ABOUT)
         .after_help(SERVE_EXAMPLE);
     with_server_options(alloc, serve)
+}
+
+fn store<'a>(alloc: Global) -> Result<Command<'a>, AllocError>
+    ensures { IfOk result (λ r. app_of r ≡ storing (codes "store")) }
+{
+    let store = Command::new(alloc, "store")
+        .about(STORE_ABOUT)
+        .after_help(STORE_EXAMPLE);
+    with_store_options(alloc, store)
 }

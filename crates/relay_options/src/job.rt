@@ -1,5 +1,6 @@
 //! The job of the program, or the reason why there is none.
 use crate::settings::Settings;
+use crate::store_job::StoreJob;
 use std::alloc::AllocError;
 use std::net::IpAddr;
 
@@ -42,8 +43,15 @@ pub enum Job {
         origins: Vec<String>,
         /// The number of connections that one address may have, 1 to 10^6. `None` means no limit.
         per_peer: Option<u64>,
+        /// `--store`: the name of the file that keeps the documents, not empty. `None` means that
+        /// they end with the program.
+        store: Option<String>,
+        /// The settings of its hub. Beside a store no epoch is given, and this one is that of a
+        /// store that begins.
         settings: Settings,
     },
+    /// `relay store`: use a tool on a store that no relay has open.
+    Store(StoreJob),
 }
 
 /// The cause for which there is no job.

@@ -10,8 +10,11 @@ mod origin;
 mod reading;
 mod server_options;
 mod settings;
+mod store_job;
+mod store_options;
 mod values;
 
 pub use job::{Job, Stop};
 pub use reading::job_of;
 pub use settings::{MAX_PORT, MAX_ROUNDS, Settings};
+pub use store_job::{StoreJob, StoreTool};

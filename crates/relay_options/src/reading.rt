@@ -11,18 +11,21 @@ use crate::hub_options::settings_of;
 use crate::job::{Job, Stop};
 use crate::server_options::serve_of;
 use crate::settings::Settings;
+use crate::store_options::store_job_of;
 use clap::error::ErrorKind;
 use clap::{ArgMatches, Error};
 use std::alloc::Global;
 
 /// Parses the arguments `words`, of which the first is the program's name. The job is the one that
-/// the words ask for, each number of it is in range, and each origin is one as a browser names a
-/// site; a word or an option that no command has gives none. Otherwise the reason is help or the
-/// version, only if it was asked for, words that name no job, a number out of range or no origin,
-/// or that memory ran out ([`Stop`]).
+/// the words ask for, each number of it is in range, each origin is one as a browser names a site,
+/// and the file of a store has a name; a word or an option that no command has gives none.
+/// Otherwise the reason is help or the version, only if it was asked for, words that name no job, a
+/// number out of range, no origin, a store without a name or beside an epoch, or that memory ran
+/// out ([`Stop`]).
 ///
 /// `now` is the number of seconds since 1970, if the clock can be read. It is the epoch of a server
-/// without `--epoch`, so that each run has another one. Without both, the job is refused.
+/// without `--epoch`, so that each run has another one. Without both, the job is refused. A store
+/// has an epoch of its own, and takes this one when it begins.
 ///
 /// ```
 /// let mut words = Vec::new(alloc);
@@ -39,6 +42,19 @@ use std::alloc::Global;
 /// for (origin, is_one) in [("https://a.example", true), ("https://a.example/", false)] {
 ///     let mut words = Vec::new(alloc);
 ///     for word in ["relay", "serve", "--port", "7", "--origin", origin] {
+///         words.push(String::from_str(alloc, word).ok()?).ok()?;
+///     }
+///     assert!(rt; job_of(alloc, &words, Some(1)).is_ok() == is_one);
+/// }
+/// ```
+///
+/// A store goes without an epoch:
+///
+/// ```
+/// for (epoch, is_one) in [("", true), ("--epoch 7", false)] {
+///     let line = format!(in alloc; "relay serve --port 7 --store a.db {epoch}").ok()?;
+///     let mut words = Vec::new(alloc);
+///     for word in line.as_str().split_whitespace() {
 ///         words.push(String::from_str(alloc, word).ok()?).ok()?;
 ///     }
 ///     assert!(rt; job_of(alloc, &words, Some(1)).is_ok() == is_one);
@@ -78,6 +94,7 @@ fn chosen(alloc: Global, matches: &ArgMatches<'_>, now: Option<u64>) -> Result<J
         Some(("loop", given)) => Ok(Job::Loop(settings_of(alloc, given, None)?)),
         Some(("follow", _)) => Ok(Job::Follow),
         Some(("serve", given)) => serve_of(alloc, given, now),
+        Some(("store", given)) => Ok(Job::Store(store_job_of(alloc, given)?)),
         Some((other, _)) => Err(Stop::Misuse(format!(in alloc;
             "error: unrecognized subcommand '{other}'\n"
         )?)),

@@ -1,18 +1,20 @@
 //! The options of `relay serve` besides those of its hub: what they accept, and the job that they
 //! ask for.
-ghost use Rattle.std.specs.Prelude.{[], ◌≡◌, ◌⊎◌, IfErr, IfOk, codes, false, map, string_bytes};
+ghost use Rattle.std.specs.Prelude.{[], ◌≡◌, ◌⊎◌, IfErr, IfOk, Some, codes, false, map};
+ghost use Rattle.std.specs.Prelude.{option_map, string_bytes};
 ghost use Rattle.std.specs.List.{list_all};
 ghost use Rattle.clap.specs.Words.{app_of, found_of, rows_of, rule_of};
-ghost use Rattle.relay_options.specs.CommandLine.{IsAddressIn, IsFlagIn, IsJobOf, IsNoHelp};
-ghost use Rattle.relay_options.specs.CommandLine.{admin_option};
+ghost use Rattle.relay_options.specs.CommandLine.{HasOneEpoch, IsAddressIn, IsFlagIn, IsJobOf};
+ghost use Rattle.relay_options.specs.CommandLine.{IsNoHelp, admin_option};
 ghost use Rattle.relay_options.specs.CommandLine.{closed_option, epoch_option};
 ghost use Rattle.relay_options.specs.CommandLine.{forget_rooms_option, listen_option, log_option};
 ghost use Rattle.relay_options.specs.CommandLine.{number_in, origin_option, output_option};
 ghost use Rattle.relay_options.specs.CommandLine.{per_peer_option, port_option};
-ghost use Rattle.relay_options.specs.CommandLine.{rounds_option, texts_in, with_server_options};
+ghost use Rattle.relay_options.specs.CommandLine.{rounds_option, store_option, text_in, texts_in};
+ghost use Rattle.relay_options.specs.CommandLine.{with_server_options};
 ghost use Rattle.relay_options.specs.Origin.{is_origin};
 ghost use Rattle.relay_options.specs.Ranges.{AreOrigins, CanBeOpened, IsAdmin, IsPerPeer};
-ghost use Rattle.relay_options.specs.Ranges.{IsPossible};
+ghost use Rattle.relay_options.specs.Ranges.{IsPossible, IsStore};
 ghost use Rattle.relay_options.specs.declared.job.Stop.TheVariants.{NoMemory};
 
 use crate::hub_options::{
@@ -21,7 +23,9 @@ use crate::hub_options::{
 use crate::job::{Job, Stop};
 use crate::origin::is_origin;
 use crate::settings::{MAX_OUTPUT_MIB, MAX_PER_PEER, MAX_PORT, MAX_ROUNDS};
-use crate::values::{given_address, given_number, given_texts, is_set, number, number_of};
+use crate::values::{
+    given_address, given_number, given_text, given_texts, is_set, number, number_of,
+};
 use clap::{Arg, ArgAction, ArgMatches, Command};
 use std::alloc::{AllocError, Global};
 use std::net::IpAddr;
@@ -67,7 +71,8 @@ pub(crate) fn with_server_options<'a>(
         .arg(closed(alloc))?
         .arg(output(alloc))?
         .arg(origin(alloc))?
-        .arg(per_peer(alloc))?;
+        .arg(per_peer(alloc))?
+        .arg(store(alloc))?;
     Ok(command)
 }
 
@@ -75,7 +80,8 @@ fn server_epoch<'a>(alloc: Global) -> Arg<'a>
     ensures { rule_of result ≡ epoch_option [] }
 {
     epoch(alloc).help(
-        "Which run of the relay this is, 0 to 9007199254740991; without it, the seconds since 1970",
+        "Which run of the relay this is, 0 to 9007199254740991; without it, the seconds since \
+         1970, or the epoch of the store",
     )
 }
 
@@ -186,6 +192,19 @@ fn per_peer<'a>(alloc: Global) -> Arg<'a>
     )
 }
 
+fn store<'a>(alloc: Global) -> Arg<'a>
+    ensures { rule_of result ≡ store_option }
+{
+    Arg::new(alloc, "store")
+        .long("store")
+        .value_name("FILE")
+        .action(ArgAction::Set)
+        .help(
+            "The file that keeps the documents, a SQLite database; a later run with the same file \
+             goes on with them; without it, they end with the program",
+        )
+}
+
 /// The job of `relay serve`.
 pub(crate) fn serve_of(alloc: Global, given: &ArgMatches<'_>, now: Option<u64>) -> Result<Job, Stop>
     ensures range { IfOk result IsPossible }
@@ -205,6 +224,7 @@ pub(crate) fn serve_of(alloc: Global, given: &ArgMatches<'_>, now: Option<u64>) 
         output_mib: number_of(alloc, given, "max-output-mib", 1, MAX_OUTPUT_MIB)?,
         origins: origins_of(alloc, given)?,
         per_peer: per_peer_of(alloc, given)?,
+        store: store_of(alloc, given)?,
         settings: settings_of(alloc, given, now)?,
     })
 }
@@ -284,6 +304,38 @@ fn per_peer_of(alloc: Global, given: &ArgMatches<'_>) -> Result<Option<u64>, Sto
             "error: --per-peer takes a number from 1 to {MAX_PER_PEER}\n"
         )?)),
     }
+}
+
+/// The name of the file that keeps the documents, if one is given. It is refused if it is empty,
+/// and beside an epoch, since a store has its own.
+fn store_of(alloc: Global, given: &ArgMatches<'_>) -> Result<Option<String>, Stop>
+    ensures range { IfOk result (λ store. IsStore (option_map string_bytes store)) }
+    ensures given { IfOk result (λ store. text_in (codes "store") (rows_of (found_of given.now))
+        ≡ option_map string_bytes store) }
+    ensures one_epoch { IfOk result (λ store. HasOneEpoch (rows_of (found_of given.now))
+        (option_map string_bytes store)) }
+    ensures refused { IfErr result (λ stop. (stop ≡ NoMemory)
+        ⊎ (text_in (codes "store") (rows_of (found_of given.now)) ≡ Some [])
+        ⊎ (HasOneEpoch (rows_of (found_of given.now))
+        (text_in (codes "store") (rows_of (found_of given.now))) → ⊥)) }
+    ensures no_help { IfErr result IsNoHelp }
+{
+    let Some(name) = given_text(alloc, given, "store")? else {
+        return Ok(None);
+    };
+    if name.is_empty() {
+        return Err(Stop::Misuse(String::from_str(
+            alloc,
+            "error: --store takes the name of a file\n",
+        )?));
+    }
+    if given_number(given, "epoch").is_some() {
+        return Err(Stop::Misuse(String::from_str(
+            alloc,
+            "error: --store goes without --epoch: a store has an epoch of its own\n",
+        )?));
+    }
+    Ok(Some(name))
 }
 
 /// Returns true if the server begins closed. That is refused without an operator, who alone can

@@ -1,8 +1,9 @@
 //! Reads the values of an option: a number within a range, an address, texts, or a flag.
-ghost use Rattle.std.specs.Prelude.{[], ◌≡◌, ◌≤◌, IfErr, IfOk, IfSome, Some, map, string_bytes};
+ghost use Rattle.std.specs.Prelude.{[], ◌≡◌, ◌≤◌, IfErr, IfOk, IfSome, Some, map, option_map};
+ghost use Rattle.std.specs.Prelude.{string_bytes};
 ghost use Rattle.clap.specs.Words.{found_of, rows_of, rule_of};
 ghost use Rattle.relay_options.specs.CommandLine.{IsAddressIn, IsFlagIn, IsNoHelp, number_in};
-ghost use Rattle.relay_options.specs.CommandLine.{number_option, texts_in};
+ghost use Rattle.relay_options.specs.CommandLine.{number_option, text_in, texts_in};
 
 use crate::job::Stop;
 use clap::builder::ValueParser;
@@ -56,6 +57,21 @@ pub(crate) fn given_address(given: &ArgMatches<'_>, name: &str) -> Option<IpAddr
     ensures { IfSome result (IsAddressIn name.now (rows_of (found_of given.now))) }
 {
     given.get_one::<IpAddr>(name)
+}
+
+/// The text of an option, if it is given.
+pub(crate) fn given_text(
+    alloc: Global,
+    given: &ArgMatches<'_>,
+    name: &str,
+) -> Result<Option<String>, AllocError>
+    ensures { IfOk result (λ text. text_in name.now (rows_of (found_of given.now))
+        ≡ option_map string_bytes text) }
+{
+    match given.get_str(name) {
+        Some(text) => Ok(Some(String::from_str(alloc, text)?)),
+        None => Ok(None),
+    }
 }
 
 /// The texts of an option that may be given several times, in the order of the words, or an empty

@@ -14,5 +14,7 @@ returns-clause-asked c = (
   c.in_ok-number_of-2.ensures.given,
   c.in_ok-origins_of.ensures.given,
   c.in_ok-per_peer_of.ensures.given,
+  c.in_ok-store_of.ensures.given,
+  c.in_ok-store_of.ensures.one_epoch,
   c.in_ok-settings_of.ensures.given,
 )

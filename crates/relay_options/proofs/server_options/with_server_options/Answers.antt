@@ -33,4 +33,5 @@ returns c =
     let twelve = option_added _ _ _ _ _ eleven c.closed.ensures refl c.in_ok-arg-12.ensures in
     let thirteen = option_added _ _ _ _ _ twelve c.output.ensures refl c.in_ok-arg-13.ensures in
     let fourteen = option_added _ _ _ _ _ thirteen c.origin.ensures refl c.in_ok-arg-14.ensures in
-    option_added _ _ _ _ _ fourteen c.per_peer.ensures refl c.in_ok-command.ensures
+    let fifteen = option_added _ _ _ _ _ fourteen c.per_peer.ensures refl c.in_ok-arg-15.ensures in
+    option_added _ _ _ _ _ fifteen c.store.ensures refl c.in_ok-command.ensures
