@@ -11,7 +11,8 @@ use Rattle.relay_loopback.specs.Loopback.{LoopbackAnswers, unopened}
 use Rattle.relay_script.specs.declared.fault.ScriptFault.{ScriptFault}
 use Rattle.relay_script.specs.declared.fault.ScriptFault.TheVariants.{BadLimit, NoMemory}
 use Rattle.relay_loopback.specs.declared.fault.ServeFault.{ServeFault}
-use Rattle.relay_loopback.specs.declared.fault.ServeFault.TheVariants.{Ended, Listen, Wait}
+use Rattle.relay_loopback.specs.declared.fault.ServeFault.TheVariants.{Ended, Listen, Lost, Store}
+use Rattle.relay_loopback.specs.declared.fault.ServeFault.TheVariants.{Wait}
 use Rattle.relay_loopback.specs.Faults.{IsListen}
 use Rattle.relay_server.specs.declared.status.Status.{Status}
 pub use Rattle.relay_script.proofs.Limits.{limits_kept}
@@ -71,6 +72,8 @@ pub LoopEnds-none : (fault : ServeFault) (input old : Option (List ℕ))
     → LoopEnds (Err fault) input input old old
 LoopEnds-none (Listen address code) input old (inl is) = (refl, refl)
 LoopEnds-none Wait input old (inl is) = absurd is
+LoopEnds-none Store input old (inl is) = absurd is
+LoopEnds-none Lost input old (inl is) = absurd is
 LoopEnds-none (Ended fault) input old (inl is) = absurd is
 LoopEnds-none fault input old (inr (inl e)) =
     subst (λ f. LoopEnds (Err f) input input old old) (sym e)

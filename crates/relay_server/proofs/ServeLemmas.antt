@@ -1,7 +1,7 @@
 -- Lemmas about the output of a server.
 use Rattle.std.proofs.Common.{◌≡◌, ◌≢◌, ◌∙◌, ℕ, ◌+◌, ◌≤◌, List, [], ◌++◌, length, take, Option}
 use Rattle.std.proofs.Common.{Some, None, Result, Ok, Err, OnOk, OnErr, IfErr, refl, sym, subst}
-use Rattle.std.proofs.Common.{arith, length-append, ◌⊎◌, inl, inr}
+use Rattle.std.proofs.Common.{ap, arith, length-append, ◌⊎◌, inl, inr, is_some, true, false}
 use Rattle.std.proofs.lemmas.List.{take-append-le}
 use Rattle.std.proofs.Math.Seq.{take-append-add, take-length}
 use Rattle.std.specs.Io.KnownBytes.{Appends, Keeps}
@@ -10,7 +10,7 @@ use Rattle.std.specs.declared.net.socket_addr.SocketAddr.{SocketAddr}
 use Rattle.relay_event_loop.proofs.Advancing.{no_rounds}
 use Rattle.relay_event_loop.specs.Advances.{Links, with_turns}
 use Rattle.relay_event_loop.specs.Rounds.{Rounds}
-use Rattle.relay_hub.specs.Stands.{StandsFor}
+use Rattle.relay_keeping.specs.Stood.{Stood}
 use Rattle.relay_hub.specs.State.{State}
 use Rattle.relay_hub.specs.declared.config.HubConfig.{HubConfig}
 use Rattle.relay_hub.specs.declared.fault.HubNewFault.{HubNewFault}
@@ -20,10 +20,13 @@ use Rattle.relay_script.specs.Lines.{AppendsPart}
 use Rattle.relay_server.specs.Printed.{listening_text, served_text, turns_text}
 use Rattle.relay_script.specs.declared.fault.ScriptFault.TheVariants.{BadLimit, Output, NoMemory}
 use Rattle.relay_loopback.specs.declared.fault.ServeFault.{ServeFault}
-use Rattle.relay_loopback.specs.declared.fault.ServeFault.TheVariants.{Ended, Listen, Wait}
+use Rattle.relay_loopback.specs.declared.fault.ServeFault.TheVariants.{Ended, Listen, Wait, Store}
+use Rattle.relay_loopback.specs.declared.fault.ServeFault.TheVariants.{Lost}
 use Rattle.relay_loopback.specs.Faults.{IsListenAt}
-use Rattle.relay_server.specs.Hosted.{HeadlineHolds}
-use Rattle.relay_server.specs.Jobs.{HasMade, HasNoSockets, Listens, ServeEnds, ServesUpTo}
+use Rattle.relay_server.specs.Config.{with_epoch}
+use Rattle.relay_server.specs.Hosted.{HeadlineHolds, IsHosted}
+use Rattle.relay_server.specs.Jobs.{HasMade, HasNoSockets, IsUnopened, Listens, ServeEnds}
+use Rattle.relay_server.specs.Jobs.{ServesUpTo}
 
 -- writing nothing writes a prefix
 pub part_none : (old : Option (List ℕ)) (bs : List ℕ) → AppendsPart old old bs
@@ -59,13 +62,12 @@ pub ends_hosting : (rounds port : ℕ) (ended : Result (Unit {0}) ServeFault)
     (old new : Option (List ℕ)) → OnOk ended (Appends old new (served_text port rounds))
     → OnErr ended (AppendsPart old new (served_text port rounds))
     → IfErr ended (λ fault. fault ≡ Ended NoMemory → Listens port old new)
-    → IfErr ended (λ fault. (fault ≡ Ended Output) ⊎ (fault ≡ Ended NoMemory))
-    → ServeEnds rounds ended old new
+    → IfErr ended IsHosted → ServeEnds rounds ended old new
 ends_hosting rounds port (Ok u) old new all part uncut which = (port, all)
-ends_hosting rounds port (Err fault) old new all part uncut (inl output) =
-    subst (λ f. ServeEnds rounds (Err f) old new) (sym output) (port, part)
-ends_hosting rounds port (Err fault) old new all part uncut (inr memory) =
-    subst (λ f. ServeEnds rounds (Err f) old new) (sym memory) (port, uncut memory)
+ends_hosting rounds port (Err (Ended Output)) old new all part uncut which = (port, part)
+ends_hosting rounds port (Err (Ended NoMemory)) old new all part uncut which = (port, uncut refl)
+ends_hosting rounds port (Err Lost) old new all part uncut which = (port, part)
+ends_hosting rounds port (Err fault) old new all part uncut which = absurd which
 
 -- all rounds are as many as a server may make
 made_all : (admin : Option ℕ) (rounds : ℕ) → HasMade admin rounds rounds
@@ -74,61 +76,76 @@ made_all (Some admin) rounds = omega arith
 
 -- the same of a server without an operator's port
 pub ends_all : (admin : Option ℕ) (rounds port : ℕ) (ended : Result (Unit {0}) ServeFault)
-    (old new : Option (List ℕ)) → admin ≡ None
+    (old new : Option (List ℕ)) → is_some admin ≡ false
     → OnOk ended (Appends old new (served_text port rounds))
     → OnErr ended (AppendsPart old new (served_text port rounds))
     → IfErr ended (λ fault. fault ≡ Ended NoMemory → Listens port old new)
-    → IfErr ended (λ fault. (fault ≡ Ended Output) ⊎ (fault ≡ Ended NoMemory))
-    → ServesUpTo admin rounds ended old new
-ends_all None rounds port ended old new e all part uncut which =
+    → IfErr ended IsHosted → ServesUpTo admin rounds ended old new
+ends_all None rounds port ended old new none all part uncut which =
     (rounds, refl, ends_hosting rounds port ended old new all part uncut which)
-ends_all (Some admin) rounds port ended old new e all part uncut which = absurd (cc)
+ends_all (Some admin) rounds port ended old new none all part uncut which = absurd (cc)
 
 -- and of one with such a port, which may have made fewer rounds
-pub ends_stopped : (admin : Option ℕ) (operator rounds port : ℕ)
-    (ended : Result (Unit {0}) ServeFault) (old new : Option (List ℕ)) (Makes : ℕ → Type 0)
-    → admin ≡ Some operator
+pub ends_stopped : (admin : Option ℕ) (rounds port : ℕ) (ended : Result (Unit {0}) ServeFault)
+    (old new : Option (List ℕ)) (Makes : ℕ → Type 0) → is_some admin ≡ true
     → OnOk ended ((made : ℕ) × (made ≤ rounds) × Makes made
     × Appends old new (served_text port made))
     → OnErr ended ((made : ℕ) × (made ≤ rounds) × AppendsPart old new (served_text port made))
     → IfErr ended (λ fault. fault ≡ Ended NoMemory → Listens port old new)
-    → IfErr ended (λ fault. (fault ≡ Ended Output) ⊎ (fault ≡ Ended NoMemory))
-    → ServesUpTo admin rounds ended old new
-ends_stopped None operator rounds port ended old new Makes e all part uncut which = absurd (cc)
-ends_stopped (Some admin) operator rounds port (Ok u) old new Makes e
-    (made, few, count, wrote) part uncut which =
+    → IfErr ended IsHosted → ServesUpTo admin rounds ended old new
+ends_stopped None rounds port ended old new Makes some all part uncut which = absurd (cc)
+ends_stopped (Some admin) rounds port (Ok u) old new Makes some (made, few, count, wrote) part
+    uncut which =
     (made, few, (port, wrote))
-ends_stopped (Some admin) operator rounds port (Err fault) old new Makes e all (
-  made,
-  few,
-  wrote,
-) uncut (inl output) =
-    (made, few, subst (λ f. ServeEnds made (Err f) old new) (sym output) (port, wrote))
-ends_stopped (Some admin) operator rounds port (Err fault) old new Makes e all (
-  made,
-  few,
-  wrote,
-) uncut (inr memory) =
-    (made, few, subst (λ f. ServeEnds made (Err f) old new) (sym memory) (port, uncut memory))
+ends_stopped (Some admin) rounds port (Err fault) old new Makes some all (made, few, wrote) uncut
+    which =
+    (made, few, ends_hosting made port (Err fault) old new tt wrote uncut which)
 
 -- without sockets nothing is printed
 pub ends_unheard : (admin : Option ℕ) (rounds : ℕ) (fault : ServeFault) (old : Option (List ℕ))
     → HasNoSockets fault → ServesUpTo admin rounds (Err fault) old old
 ends_unheard admin rounds (Listen address code) old none = (rounds, made_all admin rounds, refl)
 ends_unheard admin rounds Wait old none = (rounds, made_all admin rounds, refl)
+ends_unheard admin rounds Store old none = (rounds, made_all admin rounds, refl)
+ends_unheard admin rounds Lost old none = absurd none
 ends_unheard admin rounds (Ended fault) old none = absurd none
 
 -- and that is no fault of a limit
 pub unheard_unlimited : (fault : ServeFault) → HasNoSockets fault → fault ≢ Ended BadLimit
 unheard_unlimited (Listen address code) none = λ limit. cc
 unheard_unlimited Wait none = λ limit. cc
+unheard_unlimited Store none = λ limit. cc
+unheard_unlimited Lost none = absurd none
 unheard_unlimited (Ended fault) none = absurd none
+
+-- without a store nothing is printed
+pub ends_unopened : (admin : Option ℕ) (rounds : ℕ) (fault : ServeFault) (old : Option (List ℕ))
+    → IsUnopened fault → ServesUpTo admin rounds (Err fault) old old
+ends_unopened admin rounds Store old none = (rounds, made_all admin rounds, refl)
+ends_unopened admin rounds (Ended NoMemory) old none =
+    (rounds, made_all admin rounds, (0, inl (Keeps-refl old)))
+ends_unopened admin rounds _ old none = absurd none
+
+-- and that is no fault of a limit either
+pub unopened_unlimited : (fault : ServeFault) → IsUnopened fault → fault ≢ Ended BadLimit
+unopened_unlimited fault none = λ limit. subst IsUnopened limit none
+
+-- a server that ended well wrote both lines, whatever then becomes of the log of its store
+pub ends_moving : (admin : Option ℕ) (rounds : ℕ) (moved : Result (Unit {0}) ServeFault)
+    (old new : Option (List ℕ)) → ServesUpTo admin rounds (Ok tt) old new
+    → IfErr moved (λ fault. fault ≡ Lost) → ServesUpTo admin rounds moved old new
+ends_moving admin rounds (Ok u) old new ends lost = ends
+ends_moving admin rounds (Err fault) old new (made, has, (port, all)) lost =
+    subst (λ f. ServesUpTo admin rounds (Err f) old new) (sym lost)
+    (made, has, (port, part_whole old new (served_text port made) all))
 
 -- so ends a port that cannot be opened
 pub listen_none : (address : SocketAddr) (fault : ServeFault) → IsListenAt address fault
     → HasNoSockets fault
 listen_none address (Listen at code) is = tt
 listen_none address Wait is = absurd is
+listen_none address Store is = absurd is
+listen_none address Lost is = absurd is
 listen_none address (Ended fault) is = absurd is
 
 -- ---- out of memory cuts no line
@@ -203,27 +220,33 @@ none_made old port rounds = front_made old old port rounds (part_none old (liste
 
 -- what ended for its output, or for memory, did not end for a limit
 pub never_limited : {A : Type 0} (r : Result A ServeFault)
-    → IfErr r (λ fault. (fault ≡ Ended Output) ⊎ (fault ≡ Ended NoMemory))
-    → IfErr r (λ fault. fault ≢ Ended BadLimit)
+    → IfErr r IsHosted → IfErr r (λ fault. fault ≢ Ended BadLimit)
 never_limited (Ok x) h = tt
-never_limited (Err e) (inl h) =
-    λ limit. let same : Ended Output ≡ Ended BadLimit = sym h ∙ limit in absurd (cc same)
-never_limited (Err e) (inr h) =
-    λ limit. let same : Ended NoMemory ≡ Ended BadLimit = sym h ∙ limit in absurd (cc same)
+never_limited (Err e) h = λ limit. subst IsHosted limit h
 
--- ---- the hub of a server that began with the empty log
+-- ---- the hub of a server that began with one that stands for a log
+
+-- a hub stands with the configuration that it has
+pub stood_own : {b : HubConfig} {hub : State} → Stood b hub → Stood hub.config hub
+stood_own {hub = hub} stood = subst (λ c. Stood c hub) (sym stood.stands.config) stood
+
+-- the epoch of a configuration may be read from the hub that stands with it
+pub stood_read : (c : HubConfig) {hub : State} (epoch : ℕ) → Stood (with_epoch epoch c) hub
+    → Stood (with_epoch hub.config.epoch c) hub
+stood_read c {hub = hub} epoch stood =
+    subst (λ e. Stood (with_epoch e c) hub) (sym (ap (λ b. b.epoch) stood.stands.config)) stood
 
 pub headline_after : {S : Type 0} {remaining contents : S → Option (List ℕ)} {hub next : State}
-    {old new : Links S} (b : HubConfig) → StandsFor b [] hub
+    {old new : Links S} (b : HubConfig) → Stood b hub
     → Rounds remaining contents hub old next new → HeadlineHolds b next
 headline_after b begins rounds = record {
-  log = with_turns rounds.advances [];
-  stands = rounds.stands b [] begins;
-  exact = rounds.exact b [] begins;
-  each = rounds.each b [] begins;
+  log = with_turns rounds.advances begins.log;
+  stands = rounds.stands b begins.log begins.stands;
+  exact = rounds.exact b begins.log begins.stands;
+  each = rounds.each b begins.log begins.stands;
 }
 
-pub headline_begun : {hub : State} (b : HubConfig) → StandsFor b [] hub → HeadlineHolds b hub
+pub headline_begun : {hub : State} (b : HubConfig) → Stood b hub → HeadlineHolds b hub
 headline_begun b begins =
     headline_after {S = ℕ} {remaining = λ _. None} {contents = λ _. None} {old = λ _. None} b begins
     no_rounds

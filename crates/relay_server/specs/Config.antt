@@ -1,4 +1,5 @@
 -- The configuration of a job's hub.
+use Rattle.std.specs.Prelude.{ℕ}
 use Rattle.relay_hub.specs.Config.{bounded_by}
 use Rattle.relay_hub.specs.declared.config.HubConfig.{HubConfig}
 use Rattle.relay_script.specs.declared.script.TheConstants.{FIRST_SESSION}
@@ -18,3 +19,7 @@ config_of settings = record {
   telling_weight = bounded_by settings.telling_weight;
   view_weight = bounded_by settings.view_weight;
 }
+
+-- the same configuration with another epoch
+abbrev pub with_epoch : ℕ → HubConfig → HubConfig
+with_epoch epoch config = record config { epoch = epoch }

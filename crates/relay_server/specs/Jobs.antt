@@ -19,6 +19,7 @@ use Rattle.relay_script.specs.Script.{HubAnswers, new_stage}
 use Rattle.relay_server.specs.Config.{config_of}
 use Rattle.relay_loopback.specs.Loopback.{LoopbackAnswers, unopened}
 use Rattle.relay_server.specs.Printed.{listening_text, served_text}
+use Rattle.relay_server.specs.StoreTools.{ToolEndsAs}
 use Rattle.relay_script.specs.declared.fault.ScriptFault.{ScriptFault}
 use Rattle.relay_script.specs.declared.fault.ScriptFault.TheVariants.{BadLimit, NoMemory}
 use Rattle.relay_loopback.specs.declared.fault.ServeFault.{ServeFault}
@@ -31,6 +32,7 @@ code_of is.Done = 0
 code_of is.Failed = 1
 code_of is.Misused = 2
 code_of is.NoMemory = 3
+code_of is.NoRoom = 4
 
 abbrev pub status_of : Result (Unit {0}) ScriptFault → Status
 status_of (Ok u) = is.Done
@@ -70,23 +72,32 @@ LoopEnds (Err (serve.Ended fault)) input left old new =
     Ends LoopbackAnswers unopened (Err fault) input left old new
 LoopEnds (Err _) input left old new = (left ≡ input) × (new ≡ old)
 
--- there were no sockets, or no poll of them
+-- there were no sockets, no poll of them, or no store
 abbrev pub HasNoSockets : ServeFault → Type 0
 HasNoSockets (serve.Ended fault) = ⊥
+HasNoSockets serve.Lost = ⊥
 HasNoSockets _ = ⊤
+
+-- there was no store, or no memory for what it keeps
+abbrev pub IsUnopened : ServeFault → Type 0
+IsUnopened serve.Store = ⊤
+IsUnopened (serve.Ended NoMemory) = ⊤
+IsUnopened _ = ⊥
 
 -- no line was cut: either nothing was written, or the first line
 abbrev pub Listens : ℕ → Option (List ℕ) → Option (List ℕ) → Type 0
 Listens port old new = Keeps old new ⊎ Appends old new (listening_text port)
 
 -- The end of a server that made `rounds` rounds, by what was written before and after. On success
--- it wrote both of its lines, for some port. At `BadLimit`, or without sockets, it wrote nothing;
--- at `NoMemory`, nothing or the first line; at another fault, a prefix of both lines.
+-- it wrote both of its lines, for some port. At `BadLimit`, or without sockets or a store, it wrote
+-- nothing; at `NoMemory`, nothing or the first line; at another fault, a prefix of both lines.
 abbrev pub ServeEnds : ℕ → Result (Unit {0}) ServeFault → Option (List ℕ) → Option (List ℕ) → Type 0
 ServeEnds rounds (Ok u) old new = (port : ℕ) × Appends old new (served_text port rounds)
 ServeEnds rounds (Err (serve.Ended BadLimit)) old new = new ≡ old
 ServeEnds rounds (Err (serve.Ended NoMemory)) old new = (port : ℕ) × Listens port old new
 ServeEnds rounds (Err (serve.Ended fault)) old new =
+    (port : ℕ) × AppendsPart old new (served_text port rounds)
+ServeEnds rounds (Err serve.Lost) old new =
     (port : ℕ) × AppendsPart old new (served_text port rounds)
 ServeEnds rounds (Err _) old new = new ≡ old
 
@@ -120,8 +131,10 @@ JobEnds job.Follow status input left old new =
 JobEnds (job.Loop settings) status input left old new =
     EndsBy (λ ended. LoopEnds ended input left old new) settings status
 JobEnds (job.Serve listen port admin rounds log forget_rooms closed output_mib origins per_peer
-    settings) status input left old new =
+    store settings) status input left old new =
     (left ≡ input) × EndsBy (λ ended. ServesUpTo admin rounds ended old new) settings status
+JobEnds (job.Store asked) status input left old new =
+    ToolEndsAs asked.tool status input left old new
 
 -- the text was written, or a prefix of it if the writer failed
 abbrev pub Shows : List ℕ → Status → Option (List ℕ) → Option (List ℕ) → Type 0

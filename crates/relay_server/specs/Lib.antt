@@ -1,5 +1,8 @@
 pub mod Complaints
 pub mod Config
+pub mod Exports
 pub mod Hosted
 pub mod Jobs
+pub mod Keeper
 pub mod Printed
+pub mod StoreTools

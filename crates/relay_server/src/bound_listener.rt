@@ -1,5 +1,5 @@
 //! The sockets at which a server is found, and the poll that watches them.
-ghost use Rattle.std.specs.Prelude.{IfErr};
+ghost use Rattle.std.specs.Prelude.{◌≡◌, IfOk, IfErr, is_some};
 ghost use Rattle.relay_server.specs.Jobs.{HasNoSockets};
 
 use relay_loopback::{ServeFault, listen, loopback_at};
@@ -14,12 +14,41 @@ pub(crate) struct BoundListener<L> {
     pub port: u16,
 }
 
-/// Listens at an address. For port 0 the system chooses one.
-#[tactic(auto, using(crate::proofs::ServeLemmas::listen_none))]
-pub(crate) fn open<N: Net>(
+/// The sockets of a server: its listener, the operator's, if it has a port, and the poll of both.
+#[derive(Drop)]
+pub(crate) struct Sockets<L> {
+    pub bound: BoundListener<L>,
+    pub admin: Option<L>,
+    pub polling: Polling,
+}
+
+/// Opens the sockets of a server: it listens at an address, and for the operator on that port of
+/// the loopback address, if there is one.
+pub(crate) fn open_all<N: Net>(
+    alloc: Global,
     net: &N,
     address: SocketAddr,
-) -> Result<BoundListener<N::Listener>, ServeFault>
+    admin: Option<u16>,
+) -> Result<Sockets<N::Listener>, ServeFault>
+    ensures none { IfErr result HasNoSockets }
+    ensures admin { IfOk result (λ sockets. is_some sockets.admin ≡ is_some admin) }
+{
+    let bound = open(net, address)?;
+    let polling = poll(alloc, net, &bound.listener)?;
+    let admin = match admin {
+        Some(port) => Some(open_admin(net, port, &polling)?),
+        None => None,
+    };
+    Ok(Sockets {
+        bound,
+        admin,
+        polling,
+    })
+}
+
+/// Listens at an address. For port 0 the system chooses one.
+#[tactic(auto, using(crate::proofs::ServeLemmas::listen_none))]
+fn open<N: Net>(net: &N, address: SocketAddr) -> Result<BoundListener<N::Listener>, ServeFault>
     ensures { IfErr result HasNoSockets }
 {
     let listener = listen(net, address)?;
@@ -33,11 +62,7 @@ pub(crate) fn open<N: Net>(
 }
 
 /// Sets up the poll of a server, which watches the listener.
-pub(crate) fn poll<N: Net>(
-    alloc: Global,
-    net: &N,
-    listener: &N::Listener,
-) -> Result<Polling, ServeFault>
+fn poll<N: Net>(alloc: Global, net: &N, listener: &N::Listener) -> Result<Polling, ServeFault>
     ensures { IfErr result HasNoSockets }
 {
     match Polling::new(alloc, net, listener) {
@@ -48,11 +73,7 @@ pub(crate) fn poll<N: Net>(
 
 /// Listens on the operator's port, on the loopback address alone. The poll watches it too.
 #[tactic(auto, using(crate::proofs::ServeLemmas::listen_none))]
-pub(crate) fn open_admin<N: Net>(
-    net: &N,
-    port: u16,
-    polling: &Polling,
-) -> Result<N::Listener, ServeFault>
+fn open_admin<N: Net>(net: &N, port: u16, polling: &Polling) -> Result<N::Listener, ServeFault>
     ensures { IfErr result HasNoSockets }
 {
     let listener = listen(net, loopback_at(port))?;

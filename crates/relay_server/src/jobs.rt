@@ -14,6 +14,8 @@ ghost use Rattle.relay_loopback.specs.declared.fault.ServeFault.TheVariants.{End
 use crate::config::config_of;
 use crate::serve::{ServeOptions, serve};
 use crate::status::{Status, complaint, report, say};
+use crate::store_opener::StoreOpener;
+use crate::store_tools::{report_tool, use_tool};
 use relay_loopback::{Loopback, ServeFault, loopback_at};
 use relay_options::{Job, Settings, Stop, job_of};
 use relay_script::{Script, ScriptFault, run_follow, run_lines, run_script, write_whole};
@@ -25,7 +27,8 @@ use std::time::Clock;
 /// Runs the job that the arguments `words` ask for, over a reader and a writer, and reports faults
 /// on `errors`. The first word is the program's name. Returns the exit status: 0 if all was done or
 /// help was asked for, 1 for a fault of input, output, a line, a port or sockets, 2 for a fault of
-/// the arguments, 3 if out of memory. Requested help goes to the writer. If the arguments ask for
+/// the arguments, 3 if out of memory, 4 if a store keeps no room of the name that was asked for.
+/// Requested help goes to the writer. If the arguments ask for
 /// no job, nothing is read.
 ///
 /// ```
@@ -35,7 +38,7 @@ use std::time::Clock;
 /// let status = start(rt, &words, &mut input, &mut output, &mut errors);
 /// assert!(rt; status == 0 && output.as_slice() == "held 1 [[7]]\n".as_bytes());
 /// ```
-pub fn start<H: AllocGlobal + Clock + Net, R: Read, W: Write, E: Write>(
+pub fn start<H: AllocGlobal + Clock + Net + StoreOpener, R: Read, W: Write, E: Write>(
     rt: &H,
     words: &[String],
     reader: &mut R,
@@ -104,7 +107,7 @@ fn unread_status(why: ErrorKind) -> Status
 /// assert!(rt; ended == Status::Done && errors.is_empty());
 /// assert!(rt; output.as_slice() == "held 1 [[7]]\n".as_bytes());
 /// ```
-pub fn carry_out<N: Clock + Net, R: Read, W: Write, E: Write>(
+pub fn carry_out<N: Clock + Net + StoreOpener, R: Read, W: Write, E: Write>(
     alloc: Global,
     net: &N,
     job: Job,
@@ -136,6 +139,7 @@ pub fn carry_out<N: Clock + Net, R: Read, W: Write, E: Write>(
             output_mib,
             origins,
             per_peer,
+            store,
             settings,
         } => {
             let options = ServeOptions {
@@ -150,8 +154,12 @@ pub fn carry_out<N: Clock + Net, R: Read, W: Write, E: Write>(
                 origins,
                 per_peer,
             };
-            let ended = serve(alloc, net, writer, errors, options, settings);
+            let ended = serve(alloc, net, writer, errors, store, options, settings);
             report_sockets(ended, errors)
+        }
+        Job::Store(job) => {
+            let ended = use_tool(alloc, net, reader, writer, &job);
+            report_tool(ended, job.file.as_str(), errors)
         }
     }
 }
@@ -190,7 +198,8 @@ fn answer_lines<N: Net, R: Read, W: Write>(
     Ok(())
 }
 
-/// Reports on `errors` why a job with sockets ended early, and returns its status.
+/// Reports on `errors` why a job with sockets ended early, and returns its status. Of a store that
+/// was said before.
 fn report_sockets<E: Write>(ended: Result<(), ServeFault>, errors: &mut E) -> Status
     ensures { result ≡ sockets_status ended }
 {
@@ -205,6 +214,7 @@ fn report_sockets<E: Write>(ended: Result<(), ServeFault>, errors: &mut E) -> St
             say("relay: cannot wait for sockets\n", errors);
             Status::Failed
         }
+        Err(ServeFault::Store | ServeFault::Lost) => Status::Failed,
         Err(ServeFault::Ended(fault)) => report(Err(fault), errors),
     }
 }

@@ -3,8 +3,11 @@
 //! sockets in `relay_loopback`, and the rounds of a server in `relay_event_loop`.
 #![tactic(auto)]
 
+mod beginning;
 mod bound_listener;
 mod config;
+mod export;
+mod importing;
 mod jobs;
 mod log_level;
 mod log_lines;
@@ -12,6 +15,11 @@ mod polled_output;
 mod rfc3339;
 mod serve;
 mod status;
+mod store_keeper;
+mod store_opener;
+mod store_tools;
+mod tool_fault;
+mod tool_lines;
 
 pub use jobs::{carry_out, refuse_words, start};
 pub use log_lines::LogLines;
@@ -27,4 +35,6 @@ pub use relay_readiness::{AdminReadiness, Polling, Readiness, ReadyEvent, Stream
 pub use relay_script::{
     MAX_LINE, MAX_LINES, Respond, Script, ScriptFault, Transport, run_follow, run_script,
 };
+pub use relay_store_sqlite::LogBefore;
 pub use status::{Status, report};
+pub use store_opener::{OpenStore, StoreOpener};

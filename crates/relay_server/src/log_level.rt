@@ -9,8 +9,10 @@ use std::fmt::{Display, Formatter};
 pub(crate) enum LogLevel {
     /// The relay does what it is there for.
     Info,
-    /// A limit was reached, memory is short, or lines of the log were dropped.
+    /// A limit was reached, memory is short, a commit was slow, or lines of the log were dropped.
     Warn,
+    /// The relay cannot go on.
+    Error,
 }
 
 impl LogLevel {
@@ -28,7 +30,9 @@ impl LogLevel {
             LogEntry::Refused { .. }
             | LogEntry::Evicted { .. }
             | LogEntry::Rejected { .. }
-            | LogEntry::OutOfMemory => LogLevel::Warn,
+            | LogEntry::OutOfMemory
+            | LogEntry::SlowCommit { .. } => LogLevel::Warn,
+            LogEntry::CommitFailed => LogLevel::Error,
         }
     }
 }
@@ -38,6 +42,7 @@ impl Display for LogLevel {
         f.write_str(match self {
             LogLevel::Info => "info",
             LogLevel::Warn => "warn",
+            LogLevel::Error => "error",
         })
     }
 }

@@ -1,11 +1,15 @@
 //! The job `relay serve`: it listens, runs its rounds, and ends.
-ghost use Rattle.std.specs.Prelude.{ℕ, ◌≡◌, ◌≢◌, ◌≤◌, ◌↔◌, ◌⊎◌, [], OnOk, OnErr, IfErr, IsErrOf};
-ghost use Rattle.std.specs.Prelude.{◌-◌, ◌*◌, ◌^◌, min, false, unwrap_or};
+ghost use Rattle.std.specs.Prelude.{ℕ, ◌≡◌, ◌≢◌, ◌≤◌, ◌↔◌, ◌⊎◌, OnOk, OnErr, IfOk, IfErr, IsErrOf};
+ghost use Rattle.std.specs.Prelude.{◌-◌, ◌*◌, ◌^◌, min, false, unwrap_or, is_some};
 ghost use Rattle.std.specs.Io.KnownBytes.{Appends};
 ghost use Rattle.relay_hub.specs.Queries.{BadLimits};
+ghost use Rattle.relay_hub.specs.declared.fault.HubNewFault.TheVariants as HubNewFault;
+ghost use Rattle.relay_hub.specs.Log.{Log};
 ghost use Rattle.relay_hub.specs.Stands.{StandsFor};
+ghost use Rattle.relay_hub.specs.declared.config.HubConfig.{HubConfig};
 ghost use Rattle.relay_server.specs.Config.{config_of};
-ghost use Rattle.relay_server.specs.Jobs.{Listens, ServesUpTo};
+ghost use Rattle.relay_server.specs.Jobs.{IsUnopened, Listens, ServesUpTo};
+ghost use Rattle.relay_server.specs.Keeper.{Begins, HasKept, StandsAsKept};
 ghost use Rattle.relay_script.specs.Lines.{AppendsPart};
 ghost use Rattle.relay_server.specs.Printed.{line_of, served_text};
 ghost use Rattle.relay_event_loop.specs.Connections.{hub_of, entrance_of, made_by, made_after};
@@ -14,22 +18,29 @@ ghost use Rattle.relay_event_loop.specs.Limits.{forgets_rooms, output_limit_of};
 ghost use Rattle.relay_event_loop.specs.Rounds.{RoundsOf};
 ghost use Rattle.relay_link.specs.Entrance.{is_closed};
 ghost use Rattle.relay_link.specs.declared.entrance.Entrance.TheVariants.{Open};
-ghost use Rattle.relay_server.specs.Hosted.{HeadlineHolds};
+ghost use Rattle.relay_server.specs.Hosted.{HeadlineHolds, IsHosted};
 ghost use Rattle.relay_server.specs.declared.serve.TheConstants.{MIB};
 ghost use Rattle.relay_script.specs.declared.fault.ScriptFault.TheVariants.{BadLimit, NoMemory};
 ghost use Rattle.relay_script.specs.declared.fault.ScriptFault.TheVariants.{Output};
-ghost use Rattle.relay_loopback.specs.declared.fault.ServeFault.TheVariants.{Ended};
+ghost use Rattle.relay_loopback.specs.declared.fault.ServeFault.TheVariants.{Ended, Lost};
 
-use crate::bound_listener::{self, BoundListener};
+use crate::beginning::BeginsWith;
+use crate::bound_listener::{self, BoundListener, Sockets};
 use crate::config::config_of;
 use crate::log_lines::LogLines;
-use relay_event_loop::{ConnectionLog, Entrance, NoLog, Server};
-use relay_hub::Hub;
+use crate::store_keeper::StoreKeeper;
+use crate::store_opener::{OpenStore, StoreOpener};
+use crate::tool_fault::ToolFault;
+use relay_event_loop::{ConnectionLog, Entrance, NoLog, NotKept, Server};
+use relay_hub::{Hub, HubConfig, HubNewFault};
+use relay_keeping::{Recovered, take_up};
 use relay_loopback::ServeFault;
 use relay_operator::AdminPort;
 use relay_options::Settings;
 use relay_readiness::{AdminReadiness, Readiness};
 use relay_script::{ScriptFault, write_whole};
+use relay_store::{Keeps, StoreFault};
+use relay_store_sqlite::LogBefore;
 use std::alloc::Global;
 use std::io::{Read, Write};
 use std::net::{IpAddr, Net, OpenListener, OpenStream, SocketAddr};
@@ -67,13 +78,17 @@ pub struct ServeOptions {
 
 /// Listens, prints `listening PORT`, runs the rounds, ends the connections, and prints `turns N`:
 /// the rounds asked for, or fewer if an operator stopped it. `errors` gets a warning first if other
-/// machines may reach the port, and then the log. At `BadLimit`, `Listen` and `Wait` nothing was
-/// written to `writer`. At `NoMemory` no line there is cut; at `Output` one may be.
-pub fn serve<N: Clock + Net, W: Write, E: Write>(
+/// machines may reach the port, and then the log. At `BadLimit`, `Listen`, `Wait` and `Store`
+/// nothing was written to `writer`. At `NoMemory` no line there is cut; at `Output` one may be. At
+/// `Lost` the first line was written. Of a store that fails `errors` says why. A store's log is in
+/// its file at the end; if it is not, that is `Lost` too, both lines were written, and the file and
+/// its log have all that was kept.
+pub fn serve<N: Clock + Net + StoreOpener, W: Write, E: Write>(
     alloc: Global,
     net: &N,
     writer: &mut W,
     errors: &mut E,
+    store: Option<String>,
     options: ServeOptions,
     settings: Settings,
 ) -> Result<(), ServeFault>
@@ -82,18 +97,212 @@ pub fn serve<N: Clock + Net, W: Write, E: Write>(
     ensures bad_limit { IsErrOf result (Ended BadLimit) ↔ BadLimits (config_of settings) }
 {
     warn_of_strangers(options.listen, errors);
-    if options.log {
-        serve_with(
-            alloc,
-            net,
-            writer,
-            &mut LogLines::to(alloc, errors, net),
-            options,
-            settings,
-        )
-    } else {
-        serve_with(alloc, net, writer, &mut NoLog, options, settings)
+    let config = config_of(settings);
+    match store {
+        None => serve_new(alloc, net, writer, errors, options, config),
+        Some(name) => serve_kept(alloc, net, writer, errors, name.as_str(), options, config),
     }
+}
+
+/// Serves a new hub, whose rooms end with the process.
+#[tactic(auto, using(crate::proofs::JobLemmas::limits_kept, crate::proofs::ServeLemmas::ends_unmade, crate::proofs::KeptLemmas::begun_anew))]
+fn serve_new<N: Clock + Net, W: Write, E: Write>(
+    alloc: Global,
+    net: &N,
+    writer: &mut W,
+    errors: &mut E,
+    options: ServeOptions,
+    config: HubConfig,
+) -> Result<(), ServeFault>
+    ensures ends { ServesUpTo options.admin options.rounds result (W.contents writer.old)
+        (W.contents writer.new) }
+    ensures bad_limit { IsErrOf result (Ended BadLimit) ↔ BadLimits config }
+{
+    let hub = Hub::with_config(alloc, config)?;
+    serve_hub(
+        alloc,
+        net,
+        writer,
+        errors,
+        &mut NotKept,
+        hub,
+        options,
+        config,
+    )
+}
+
+/// Serves the hub of a store, with this configuration but for the epoch, which is the store's.
+#[tactic(auto, using(crate::proofs::JobLemmas::limits_kept, crate::proofs::ServeLemmas::ends_unmade, crate::proofs::ServeLemmas::ends_unopened, crate::proofs::ServeLemmas::unopened_unlimited))]
+fn serve_kept<N: Clock + Net + StoreOpener, W: Write, E: Write>(
+    alloc: Global,
+    net: &N,
+    writer: &mut W,
+    errors: &mut E,
+    store: &str,
+    options: ServeOptions,
+    config: HubConfig,
+) -> Result<(), ServeFault>
+    ensures ends { ServesUpTo options.admin options.rounds result (W.contents writer.old)
+        (W.contents writer.new) }
+    ensures bad_limit { IsErrOf result (Ended BadLimit) ↔ BadLimits config }
+{
+    check_limits(alloc, config)?;
+    match open_kept(alloc, net, store, config) {
+        Ok(kept) => serve_recovered(alloc, net, writer, errors, store, kept, options, config),
+        Err(fault) => Err(refuse_store(store, fault, errors)),
+    }
+}
+
+/// Checks that the numbers of a configuration are within their ranges.
+fn check_limits(alloc: Global, config: HubConfig) -> Result<(), HubNewFault>
+    ensures { IsErrOf result HubNewFault.BadLimit ↔ BadLimits config }
+{
+    Hub::with_config(alloc, config)?;
+    Ok(())
+}
+
+/// Opens a store, and makes a hub of what it keeps, which does the wills that are kept. What they
+/// did is kept too, so the keeper of the rooms has kept what the hub is.
+fn open_kept<N: StoreOpener>(
+    alloc: Global,
+    opener: &N,
+    store: &str,
+    config: HubConfig,
+) -> Result<Recovered<N::Store>, StoreFault>
+    ensures stood { IfOk result (λ taken. StandsAsKept N.Store.kept N.Store.is_clean config
+        taken.rooms.store taken.hub) }
+    ensures kept { IfOk result (λ taken. (b : HubConfig) (log : Log) → StandsFor b log taken.hub
+        → HasKept N.Store.kept N.Store.is_clean taken.rooms log taken.hub) }
+{
+    let open = opener.open_store(store, config.epoch)?;
+    let config = HubConfig {
+        epoch: open.epoch,
+        ..config
+    };
+    match take_up(alloc, config, open.store, &open.changes) {
+        Ok(taken) => taken.keep(alloc),
+        Err(fault) => {
+            put_back(opener, store, open.log_before);
+            Err(fault)
+        }
+    }
+}
+
+/// Leaves what was there before beside the file of a store that was opened and is refused. It is
+/// opened again for that, since nobody else may have it open meanwhile.
+fn put_back<N: StoreOpener>(opener: &N, store: &str, log_before: LogBefore) {
+    if let Ok(open) = opener.open_made(store) {
+        opener.close_read(store, OpenStore { log_before, ..open });
+    }
+}
+
+/// Says why a store cannot be opened, and gives the fault of the job.
+fn refuse_store<E: Write>(store: &str, fault: StoreFault, errors: &mut E) -> ServeFault
+    ensures { IsUnopened result }
+{
+    if fault == StoreFault::NoMemory {
+        return ServeFault::Ended(ScriptFault::NoMemory);
+    }
+    say_fault(store, fault, errors);
+    ServeFault::Store
+}
+
+/// Says how many rooms a store has, serves their hub, and moves the log of the store into its file;
+/// and says why nothing could be kept any more, if so.
+#[tactic(auto, using(crate::proofs::ServeLemmas::ends_moving))]
+fn serve_recovered<N: Clock + Net, W: Write, E: Write, K: Keeps + Drop>(
+    alloc: Global,
+    net: &N,
+    writer: &mut W,
+    errors: &mut E,
+    store: &str,
+    kept: Recovered<K>,
+    options: ServeOptions,
+    config: HubConfig,
+) -> Result<(), ServeFault>
+    requires stood { StandsAsKept K.kept K.is_clean config kept.rooms.store kept.hub }
+    requires kept { (b : HubConfig) (log : Log) → StandsFor b log kept.hub
+        → HasKept K.kept K.is_clean kept.rooms log kept.hub }
+    ensures ends { ServesUpTo options.admin options.rounds result (W.contents writer.old)
+        (W.contents writer.new) }
+    ensures limits { IfErr result (λ fault. fault ≢ Ended BadLimit) }
+{
+    let Recovered { hub, rooms } = kept;
+    say_rooms(store, rooms_of(&hub), errors);
+    let config = HubConfig {
+        epoch: hub.config().epoch,
+        ..config
+    };
+    let mut keeper = StoreKeeper::of(rooms);
+    match serve_hub(
+        alloc,
+        net,
+        writer,
+        errors,
+        &mut keeper,
+        hub,
+        options,
+        config,
+    ) {
+        Ok(()) => move_log(store, &mut keeper, errors),
+        Err(ended) => {
+            if let Some(fault) = keeper.fault() {
+                say_fault(store, fault, errors);
+            }
+            Err(ended)
+        }
+    }
+}
+
+/// Moves the log of a store into its file. If that fails, says why, and that nothing is lost.
+fn move_log<K: Keeps, E: Write>(
+    store: &str,
+    keeper: &mut StoreKeeper<K>,
+    errors: &mut E,
+) -> Result<(), ServeFault>
+    ensures moved { K.is_clean keeper.new.rooms.store →
+        OnOk result (K.is_checkpointed keeper.new.rooms.store) }
+    ensures fault { IfErr result (λ fault. fault ≡ Lost) }
+{
+    match keeper.checkpoint() {
+        Ok(()) => Ok(()),
+        Err(fault) => {
+            let _ = writeln!(
+                errors,
+                "relay: --store {store}: {}",
+                ToolFault::LogStays(fault)
+            );
+            Err(ServeFault::Lost)
+        }
+    }
+}
+
+/// The number of rooms of a hub.
+fn rooms_of(hub: &Hub) -> usize {
+    let most = hub.config().rooms as usize;
+    (0..most)
+        .find(|index| hub.room_at(*index).is_none())
+        .unwrap_or(most)
+}
+
+/// Says how many rooms a store has.
+fn say_rooms<E: Write>(store: &str, rooms: usize, errors: &mut E) {
+    let _ = match rooms {
+        0 => writeln!(errors, "relay: --store {store}: no rooms yet"),
+        1 => writeln!(errors, "relay: --store {store}: 1 room"),
+        _ => writeln!(errors, "relay: --store {store}: {rooms} rooms"),
+    };
+}
+
+/// Says why a store cannot be opened or written, and the way out that an option gives.
+fn say_fault<E: Write>(store: &str, fault: StoreFault, errors: &mut E) {
+    let _ = match fault {
+        StoreFault::TooManyRooms => writeln!(
+            errors,
+            "relay: --store {store}: {fault}: give a higher --rooms"
+        ),
+        _ => writeln!(errors, "relay: --store {store}: {fault}"),
+    };
 }
 
 /// Warns of an address that other machines may reach.
@@ -106,62 +315,101 @@ fn warn_of_strangers<E: Write>(address: IpAddr, errors: &mut E) {
     }
 }
 
-/// Makes the hub of the settings, and serves it with this log.
-#[tactic(auto, using(crate::proofs::JobLemmas::limits_kept, crate::proofs::ServeLemmas::ends_unmade))]
-fn serve_with<N: Clock + Net, W: Write, J: ConnectionLog>(
+/// Serves a hub of this configuration, whose rooms this keeper keeps, with the log that the options
+/// ask for.
+#[tactic(auto, using(crate::proofs::KeptLemmas::begun_own))]
+fn serve_hub<N: Clock + Net, W: Write, E: Write, K: BeginsWith>(
     alloc: Global,
     net: &N,
     writer: &mut W,
-    log: &mut J,
+    errors: &mut E,
+    keeper: &mut K,
+    hub: Hub,
     options: ServeOptions,
-    settings: Settings,
+    config: HubConfig,
 ) -> Result<(), ServeFault>
+    requires { Begins K.may_begin config keeper.old hub }
     ensures ends { ServesUpTo options.admin options.rounds result (W.contents writer.old)
         (W.contents writer.new) }
-    ensures bad_limit { IsErrOf result (Ended BadLimit) ↔ BadLimits (config_of settings) }
+    ensures limits { IfErr result (λ fault. fault ≢ Ended BadLimit) }
 {
-    let hub = Hub::with_config(alloc, config_of(settings))?;
-    serve_hub(alloc, net, writer, log, hub, options, settings)
+    if options.log {
+        let mut log = LogLines::to(alloc, errors, net);
+        serve_logged(alloc, net, writer, keeper, &mut log, hub, options)
+    } else {
+        serve_logged(alloc, net, writer, keeper, &mut NoLog, hub, options)
+    }
 }
 
-/// Serves a hub that stands for the empty log, with the configuration of these settings.
+/// Serves a hub with this log.
 #[tactic(auto, using(crate::proofs::ServeLemmas::ends_unheard, crate::proofs::ServeLemmas::unheard_unlimited))]
-fn serve_hub<N: Clock + Net, W: Write, J: ConnectionLog>(
+fn serve_logged<N: Clock + Net, W: Write, K: BeginsWith, J: ConnectionLog>(
     alloc: Global,
     net: &N,
     writer: &mut W,
+    keeper: &mut K,
     log: &mut J,
     hub: Hub,
     options: ServeOptions,
-    settings: Settings,
 ) -> Result<(), ServeFault>
-    requires { StandsFor (config_of settings) [] hub }
+    requires { Begins K.may_begin hub.config keeper.old hub }
     ensures ends { ServesUpTo options.admin options.rounds result (W.contents writer.old)
         (W.contents writer.new) }
     ensures limits { IfErr result (λ fault. fault ≢ Ended BadLimit) }
 {
     let address = SocketAddr::new(options.listen, options.port);
-    let bound = bound_listener::open(net, address)?;
-    let polling = bound_listener::poll(alloc, net, &bound.listener)?;
+    match bound_listener::open_all(alloc, net, address, options.admin) {
+        Ok(sockets) => serve_on(alloc, net, writer, keeper, log, sockets, hub, options),
+        Err(fault) => Err(fault),
+    }
+}
+
+/// Serves a hub on these sockets.
+fn serve_on<N: Clock + Net, W: Write, K: BeginsWith, J: ConnectionLog>(
+    alloc: Global,
+    net: &N,
+    writer: &mut W,
+    keeper: &mut K,
+    log: &mut J,
+    sockets: Sockets<N::Listener>,
+    hub: Hub,
+    options: ServeOptions,
+) -> Result<(), ServeFault>
+    requires admin { is_some sockets.admin ≡ is_some options.admin }
+    requires begins { Begins K.may_begin hub.config keeper.old hub }
+    ensures ends { ServesUpTo options.admin options.rounds result (W.contents writer.old)
+        (W.contents writer.new) }
+    ensures limits { IfErr result (λ fault. fault ≢ Ended BadLimit) }
+{
+    let Sockets {
+        bound,
+        admin,
+        polling,
+    } = sockets;
     let rounds = options.rounds;
-    let Some(admin) = options.admin else {
-        let readiness = AdminReadiness::without_port(polling, net);
-        let mut server = server_of(alloc, hub, readiness, options);
-        return host(alloc, writer, log, &mut server, &bound, rounds, settings);
-    };
-    let admin = bound_listener::open_admin(net, admin, &polling)?;
-    let readiness = AdminReadiness::new(polling, net);
-    let mut server = server_of(alloc, hub, readiness, options);
-    host_administered(
-        alloc,
-        writer,
-        log,
-        &mut server,
-        &bound,
-        &mut AdminPort::new(alloc, admin),
-        rounds,
-        settings,
-    )
+    let tells_kept = keeper.is_keeping();
+    match admin {
+        None => {
+            let readiness = AdminReadiness::without_port(polling, net);
+            let mut server = server_of(alloc, hub, readiness, options, tells_kept);
+            host(alloc, writer, keeper, log, &mut server, &bound, rounds)
+        }
+        Some(admin) => {
+            let readiness = AdminReadiness::new(polling, net);
+            let mut server = server_of(alloc, hub, readiness, options, tells_kept);
+            let mut admin = AdminPort::new(alloc, admin);
+            host_administered(
+                alloc,
+                writer,
+                keeper,
+                log,
+                &mut server,
+                &bound,
+                &mut admin,
+                rounds,
+            )
+        }
+    }
 }
 
 /// The server of a hub, as it is asked for.
@@ -170,6 +418,7 @@ fn server_of<S: Read + Write + OpenStream + Drop, R: Readiness<S>>(
     hub: Hub,
     readiness: R,
     options: ServeOptions,
+    tells_kept: bool,
 ) -> Server<S, R>
     ensures hub { hub_of result ≡ hub }
     ensures forgets { forgets_rooms result ≡ options.forget_rooms }
@@ -186,6 +435,7 @@ fn server_of<S: Read + Write + OpenStream + Drop, R: Readiness<S>>(
         most_output,
         options.origins,
         options.per_peer,
+        tells_kept,
     );
     if options.forget_rooms {
         server.forget_rooms();
@@ -197,7 +447,7 @@ fn server_of<S: Read + Write + OpenStream + Drop, R: Readiness<S>>(
 }
 
 /// A server of a hub that holds so much output, lets in pages of these origins, and so many
-/// connections of one address, if there is a limit.
+/// connections of one address, if there is a limit. If it tells only what is kept, so it says.
 fn bounded<S: Read + Write + OpenStream + Drop, R: Readiness<S>>(
     alloc: Global,
     hub: Hub,
@@ -205,6 +455,7 @@ fn bounded<S: Read + Write + OpenStream + Drop, R: Readiness<S>>(
     most_output: u64,
     origins: Vec<String>,
     per_peer: Option<u64>,
+    tells_kept: bool,
 ) -> Server<S, R>
     ensures hub { hub_of result ≡ hub }
     ensures forgets { forgets_rooms result ≡ false }
@@ -216,6 +467,9 @@ fn bounded<S: Read + Write + OpenStream + Drop, R: Readiness<S>>(
     let mut server = Server::new(alloc, hub, readiness, most_output);
     server.set_per_peer(per_peer.unwrap_or(u64::MAX));
     server.set_origins(origins);
+    if tells_kept {
+        server.tell_kept();
+    }
     server
 }
 
@@ -227,21 +481,23 @@ fn bytes_of(mib: u64) -> u64
 }
 
 /// Prints the port, runs the rounds, ends every connection, and prints the number of rounds. The
-/// server begins with a hub as [`serve_hub`] gets it.
+/// server's hub stands for a log in the end, as in the beginning. `Lost`: nothing can be kept any
+/// more.
 #[tactic(auto, using(crate::proofs::ServeLemmas::uncut_first, crate::proofs::ServeLemmas::uncut_last, relay_event_loop::proofs::Advancing::no_rounds))]
-fn host<L: OpenListener, P: Readiness<L::Stream>, W: Write, J: ConnectionLog>(
+fn host<L: OpenListener, P: Readiness<L::Stream>, W: Write, K: BeginsWith, J: ConnectionLog>(
     alloc: Global,
     writer: &mut W,
+    keeper: &mut K,
     log: &mut J,
     server: &mut Server<L::Stream, P>,
     bound: &BoundListener<L>,
     rounds: u64,
-    settings: Settings,
 ) -> Result<(), ServeFault>
 where
     L::Stream: Read + Write + OpenStream + Drop,
-    requires begins { StandsFor (config_of settings) [] (hub_of server.old) }
-    ensures headline { HeadlineHolds (config_of settings) (hub_of server.new) }
+    requires begins { Begins K.may_begin (hub_of server.old).config keeper.old
+        (hub_of server.old) }
+    ensures headline { HeadlineHolds (hub_of server.old).config (hub_of server.new) }
     ensures rounds { RoundsOf L.Stream.remaining L.Stream.contents server.old server.new }
     ensures made { OnOk result (made_by server.new ≡ made_after rounds server.old) }
     ensures done { OnOk result (Appends (W.contents writer.old) (W.contents writer.new)
@@ -250,10 +506,13 @@ where
         (served_text bound.now.port rounds)) }
     ensures uncut { IfErr result (λ fault. fault ≡ Ended NoMemory
         → Listens bound.now.port (W.contents writer.old) (W.contents writer.new)) }
-    ensures fault { IfErr result (λ fault. (fault ≡ Ended Output) ⊎ (fault ≡ Ended NoMemory)) }
+    ensures fault { IfErr result IsHosted }
 {
     tell(alloc, writer, "listening", bound.port as u64)?;
-    server.run(alloc, &bound.listener, rounds, log);
+    let run = server.run(alloc, &bound.listener, rounds, keeper, log);
+    if run.is_lost {
+        return Err(ServeFault::Lost);
+    }
     tell(alloc, writer, "turns", rounds)
 }
 
@@ -265,21 +524,23 @@ fn host_administered<
     P: Readiness<L::Stream> + Drop,
     C: Clock,
     W: Write,
+    K: BeginsWith,
     J: ConnectionLog,
 >(
     alloc: Global,
     writer: &mut W,
+    keeper: &mut K,
     log: &mut J,
     server: &mut Server<L::Stream, AdminReadiness<'_, P, C>>,
     bound: &BoundListener<L>,
     admin: &mut AdminPort<L>,
     rounds: u64,
-    settings: Settings,
 ) -> Result<(), ServeFault>
 where
     L::Stream: Read + Write + OpenStream + Drop,
-    requires begins { StandsFor (config_of settings) [] (hub_of server.old) }
-    ensures headline { HeadlineHolds (config_of settings) (hub_of server.new) }
+    requires begins { Begins K.may_begin (hub_of server.old).config keeper.old
+        (hub_of server.old) }
+    ensures headline { HeadlineHolds (hub_of server.old).config (hub_of server.new) }
     ensures rounds { RoundsOf L.Stream.remaining L.Stream.contents server.old server.new }
     ensures done { OnOk result ((made : ℕ) × (made ≤ rounds)
         × (made_by server.new ≡ made_after made server.old)
@@ -290,10 +551,13 @@ where
         (served_text bound.now.port made)) }
     ensures uncut { IfErr result (λ fault. fault ≡ Ended NoMemory
         → Listens bound.now.port (W.contents writer.old) (W.contents writer.new)) }
-    ensures fault { IfErr result (λ fault. (fault ≡ Ended Output) ⊎ (fault ≡ Ended NoMemory)) }
+    ensures fault { IfErr result IsHosted }
 {
     tell(alloc, writer, "listening", bound.port as u64)?;
-    let made = server.run_administered(alloc, &bound.listener, admin, rounds, log);
+    let made = server.run_administered(alloc, &bound.listener, admin, rounds, keeper, log);
+    if server.is_lost() {
+        return Err(ServeFault::Lost);
+    }
     tell(alloc, writer, "turns", made)
 }
 

@@ -24,6 +24,8 @@ pub enum Status {
     Misused,
     /// 3: out of memory.
     NoMemory,
+    /// 4: a store keeps no room of the name that was asked for.
+    NoRoom,
 }
 
 impl Status {
@@ -32,6 +34,7 @@ impl Status {
     /// ```
     /// assert!(rt; Status::Done.code() == 0 && Status::Failed.code() == 1);
     /// assert!(rt; Status::Misused.code() == 2 && Status::NoMemory.code() == 3);
+    /// assert!(rt; Status::NoRoom.code() == 4);
     /// ```
     pub fn code(self) -> u8
         ensures { result ≡ code_of self }
@@ -41,6 +44,7 @@ impl Status {
             Status::Failed => 1,
             Status::Misused => 2,
             Status::NoMemory => 3,
+            Status::NoRoom => 4,
         }
     }
 }

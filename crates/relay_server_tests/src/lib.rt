@@ -23,3 +23,5 @@ mod sockets;
 mod story;
 #[cfg(test)]
 mod streams;
+#[cfg(test)]
+mod tools;

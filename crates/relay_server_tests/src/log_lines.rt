@@ -28,6 +28,10 @@ says left Memory => time=1970-01-01T00:00:00.000Z level=warn event=ended peer=12
 says evicted => time=1970-01-01T00:00:00.000Z level=warn event=evicted peer=127.0.0.1:51000 link=7 rounds=3\n
 says rejected => time=1970-01-01T00:00:00.000Z level=warn event=rejected peer=127.0.0.1:51000 cause=per-peer\n
 
+# A commit that is slow is a warning, and one that failed an error.
+says slow-commit => time=1970-01-01T00:00:00.000Z level=warn event=slow-commit millis=1534\n
+says commit-failed => time=1970-01-01T00:00:00.000Z level=error event=commit-failed\n
+
 # The line of a refused handshake says why. It is a warning if a limit was reached or memory is short.
 says refused NotFound => time=1970-01-01T00:00:00.000Z level=info event=refused peer=127.0.0.1:51000 link=7 status=404\n
 says refused SessionsFull => time=1970-01-01T00:00:00.000Z level=warn event=refused peer=127.0.0.1:51000 link=7 status=503 cause=sessions\n
@@ -189,6 +193,8 @@ fn entry_of(words: &str) -> Option<LogEntry<'static>> {
         "rejected" => LogEntry::Rejected {
             peer: connection.peer,
         },
+        "slow-commit" => LogEntry::SlowCommit { millis: 1_534 },
+        "commit-failed" => LogEntry::CommitFailed,
         _ => return None,
     })
 }

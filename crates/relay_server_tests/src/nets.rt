@@ -1,7 +1,8 @@
 //! Tests of `serve` and `loop` on a faulty network.
 use crate::story::{on_one_line, with_status};
 use relay_options::{Job, Settings};
-use relay_server::carry_out;
+use relay_server::{OpenStore, StoreOpener, carry_out};
+use relay_store::{MemoryStore, StoreFault};
 use relay_test_stream::{Subject, cut, play};
 use std::alloc::{AllocGlobal, Global};
 use std::io;
@@ -24,6 +25,9 @@ serve-at 127.0.0.2 Loopback => relay: cannot wait for sockets\nstatus 1
 serve-at ::1 Port => relay: cannot listen on [::1]:7\nstatus 1
 serve-at 0.0.0.0 Port => relay: --listen 0.0.0.0: every machine that reaches this address can enter\nrelay: cannot listen on 0.0.0.0:7\nstatus 1
 serve-at :: Descriptor => relay: --listen ::: every machine that reaches this address can enter\nrelay: cannot wait for sockets\nstatus 1
+
+# A store is opened before anything listens, and what is wrong with it is said.
+serve-kept Port => relay: --store board.db: the file is in use\nstatus 1
 
 # The loop says so too. It polls nothing, so an invalid descriptor does not stop it. Its line is answered `stuck`, since its client cannot
 # connect.
@@ -50,7 +54,7 @@ impl<R: AllocGlobal> Subject<R> for Nets {
     }
 }
 
-fn serve_at(alloc: Global, listen: IpAddr) -> Job {
+fn serve_at(alloc: Global, listen: IpAddr, store: Option<String>) -> Job {
     Job::Serve {
         listen,
         port: 7,
@@ -62,6 +66,7 @@ fn serve_at(alloc: Global, listen: IpAddr) -> Job {
         output_mib: 256,
         origins: Vec::new(alloc),
         per_peer: None,
+        store,
         settings: Settings {
             epoch: 2,
             ..Settings::DEFAULT
@@ -71,8 +76,12 @@ fn serve_at(alloc: Global, listen: IpAddr) -> Job {
 
 fn job_named(alloc: Global, name: &str) -> Option<Job> {
     match cut(name) {
-        ("serve", _) => Some(serve_at(alloc, IpAddr::V4(Ipv4Addr::LOCALHOST))),
-        ("serve-at", address) => Some(serve_at(alloc, address.parse::<IpAddr>().ok()?)),
+        ("serve", _) => Some(serve_at(alloc, IpAddr::V4(Ipv4Addr::LOCALHOST), None)),
+        ("serve-kept", _) => {
+            let store = String::from_str(alloc, "board.db").ok()?;
+            Some(serve_at(alloc, IpAddr::V4(Ipv4Addr::LOCALHOST), Some(store)))
+        }
+        ("serve-at", address) => Some(serve_at(alloc, address.parse::<IpAddr>().ok()?, None)),
         ("loop", _) => Some(Job::Loop(Settings::DEFAULT)),
         _ => None,
     }
@@ -80,7 +89,7 @@ fn job_named(alloc: Global, name: &str) -> Option<Job> {
 
 /// A network whose listeners lack something, and to which no client connects.
 #[derive(Clone, Copy)]
-enum FaultyNet {
+pub enum FaultyNet {
     /// A listener cannot be bound to its port.
     NoPort,
     /// A listener can be bound to 127.0.0.2 alone.
@@ -155,6 +164,23 @@ impl Clock for FaultyNet {
 
     fn since_1970(&self) -> io::Result<Duration> {
         Ok(Duration::ZERO)
+    }
+}
+
+/// Its stores are all in use.
+impl StoreOpener for FaultyNet {
+    type Store = MemoryStore;
+
+    fn open_store(&self, _: &str, _: u64) -> Result<OpenStore<MemoryStore>, StoreFault> {
+        Err(StoreFault::InUse)
+    }
+
+    fn open_made(&self, _: &str) -> Result<OpenStore<MemoryStore>, StoreFault> {
+        Err(StoreFault::InUse)
+    }
+
+    fn close_read(&self, _: &str, open: OpenStore<MemoryStore>) {
+        drop(open);
     }
 }
 

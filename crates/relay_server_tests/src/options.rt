@@ -28,20 +28,20 @@ relay loop --rooms 2 => Loop(Settings { history: 64, max_waiting_patches: 32, ro
 relay loop --sessions 3 => Loop(Settings { history: 64, max_waiting_patches: 32, rooms: 64, sessions: 3, epoch: 1, history_weight: None, waiting_weight: None, telling_weight: None, view_weight: None })
 
 # Reads the jobs of servers, which have defaults of their own for weights.
-relay serve --port 0 --turns 1 => Serve { listen: 127.0.0.1, port: 0, admin: None, rounds: 1, log: false, forget_rooms: false, closed: false, output_mib: 256, origins: [], per_peer: None, settings: Settings { history: 64, max_waiting_patches: 32, rooms: 64, sessions: 256, epoch: 1764000000, history_weight: Some(262144), waiting_weight: Some(65536), telling_weight: Some(1048576), view_weight: Some(16384) } }
-relay serve --port 7 => Serve { listen: 127.0.0.1, port: 7, admin: None, rounds: 1000000000000, log: false, forget_rooms: false, closed: false, output_mib: 256, origins: [], per_peer: None, settings: Settings { history: 64, max_waiting_patches: 32, rooms: 64, sessions: 256, epoch: 1764000000, history_weight: Some(262144), waiting_weight: Some(65536), telling_weight: Some(1048576), view_weight: Some(16384) } }
-relay serve --port 7 --log => Serve { listen: 127.0.0.1, port: 7, admin: None, rounds: 1000000000000, log: true, forget_rooms: false, closed: false, output_mib: 256, origins: [], per_peer: None, settings: Settings { history: 64, max_waiting_patches: 32, rooms: 64, sessions: 256, epoch: 1764000000, history_weight: Some(262144), waiting_weight: Some(65536), telling_weight: Some(1048576), view_weight: Some(16384) } }
-relay serve --port 7 --forget-rooms => Serve { listen: 127.0.0.1, port: 7, admin: None, rounds: 1000000000000, log: false, forget_rooms: true, closed: false, output_mib: 256, origins: [], per_peer: None, settings: Settings { history: 64, max_waiting_patches: 32, rooms: 64, sessions: 256, epoch: 1764000000, history_weight: Some(262144), waiting_weight: Some(65536), telling_weight: Some(1048576), view_weight: Some(16384) } }
-relay serve --turns 1000000000000 --port 65535 => Serve { listen: 127.0.0.1, port: 65535, admin: None, rounds: 1000000000000, log: false, forget_rooms: false, closed: false, output_mib: 256, origins: [], per_peer: None, settings: Settings { history: 64, max_waiting_patches: 32, rooms: 64, sessions: 256, epoch: 1764000000, history_weight: Some(262144), waiting_weight: Some(65536), telling_weight: Some(1048576), view_weight: Some(16384) } }
-relay serve --port 7 --turns 1 --rooms 1000 --sessions 2000 => Serve { listen: 127.0.0.1, port: 7, admin: None, rounds: 1, log: false, forget_rooms: false, closed: false, output_mib: 256, origins: [], per_peer: None, settings: Settings { history: 64, max_waiting_patches: 32, rooms: 1000, sessions: 2000, epoch: 1764000000, history_weight: Some(262144), waiting_weight: Some(65536), telling_weight: Some(1048576), view_weight: Some(16384) } }
-relay serve --port 7 --admin 65535 --turns 1 => Serve { listen: 127.0.0.1, port: 7, admin: Some(65535), rounds: 1, log: false, forget_rooms: false, closed: false, output_mib: 256, origins: [], per_peer: None, settings: Settings { history: 64, max_waiting_patches: 32, rooms: 64, sessions: 256, epoch: 1764000000, history_weight: Some(262144), waiting_weight: Some(65536), telling_weight: Some(1048576), view_weight: Some(16384) } }
-relay serve --port 0 --admin 1 --turns 1 => Serve { listen: 127.0.0.1, port: 0, admin: Some(1), rounds: 1, log: false, forget_rooms: false, closed: false, output_mib: 256, origins: [], per_peer: None, settings: Settings { history: 64, max_waiting_patches: 32, rooms: 64, sessions: 256, epoch: 1764000000, history_weight: Some(262144), waiting_weight: Some(65536), telling_weight: Some(1048576), view_weight: Some(16384) } }
-relay serve --port 7 --max-output-mib 1 => Serve { listen: 127.0.0.1, port: 7, admin: None, rounds: 1000000000000, log: false, forget_rooms: false, closed: false, output_mib: 1, origins: [], per_peer: None, settings: Settings { history: 64, max_waiting_patches: 32, rooms: 64, sessions: 256, epoch: 1764000000, history_weight: Some(262144), waiting_weight: Some(65536), telling_weight: Some(1048576), view_weight: Some(16384) } }
-relay serve --port 7 --max-output-mib 1048576 => Serve { listen: 127.0.0.1, port: 7, admin: None, rounds: 1000000000000, log: false, forget_rooms: false, closed: false, output_mib: 1048576, origins: [], per_peer: None, settings: Settings { history: 64, max_waiting_patches: 32, rooms: 64, sessions: 256, epoch: 1764000000, history_weight: Some(262144), waiting_weight: Some(65536), telling_weight: Some(1048576), view_weight: Some(16384) } }
+relay serve --port 0 --turns 1 => Serve { listen: 127.0.0.1, port: 0, admin: None, rounds: 1, log: false, forget_rooms: false, closed: false, output_mib: 256, origins: [], per_peer: None, store: None, settings: Settings { history: 64, max_waiting_patches: 32, rooms: 64, sessions: 256, epoch: 1764000000, history_weight: Some(262144), waiting_weight: Some(65536), telling_weight: Some(1048576), view_weight: Some(16384) } }
+relay serve --port 7 => Serve { listen: 127.0.0.1, port: 7, admin: None, rounds: 1000000000000, log: false, forget_rooms: false, closed: false, output_mib: 256, origins: [], per_peer: None, store: None, settings: Settings { history: 64, max_waiting_patches: 32, rooms: 64, sessions: 256, epoch: 1764000000, history_weight: Some(262144), waiting_weight: Some(65536), telling_weight: Some(1048576), view_weight: Some(16384) } }
+relay serve --port 7 --log => Serve { listen: 127.0.0.1, port: 7, admin: None, rounds: 1000000000000, log: true, forget_rooms: false, closed: false, output_mib: 256, origins: [], per_peer: None, store: None, settings: Settings { history: 64, max_waiting_patches: 32, rooms: 64, sessions: 256, epoch: 1764000000, history_weight: Some(262144), waiting_weight: Some(65536), telling_weight: Some(1048576), view_weight: Some(16384) } }
+relay serve --port 7 --forget-rooms => Serve { listen: 127.0.0.1, port: 7, admin: None, rounds: 1000000000000, log: false, forget_rooms: true, closed: false, output_mib: 256, origins: [], per_peer: None, store: None, settings: Settings { history: 64, max_waiting_patches: 32, rooms: 64, sessions: 256, epoch: 1764000000, history_weight: Some(262144), waiting_weight: Some(65536), telling_weight: Some(1048576), view_weight: Some(16384) } }
+relay serve --turns 1000000000000 --port 65535 => Serve { listen: 127.0.0.1, port: 65535, admin: None, rounds: 1000000000000, log: false, forget_rooms: false, closed: false, output_mib: 256, origins: [], per_peer: None, store: None, settings: Settings { history: 64, max_waiting_patches: 32, rooms: 64, sessions: 256, epoch: 1764000000, history_weight: Some(262144), waiting_weight: Some(65536), telling_weight: Some(1048576), view_weight: Some(16384) } }
+relay serve --port 7 --turns 1 --rooms 1000 --sessions 2000 => Serve { listen: 127.0.0.1, port: 7, admin: None, rounds: 1, log: false, forget_rooms: false, closed: false, output_mib: 256, origins: [], per_peer: None, store: None, settings: Settings { history: 64, max_waiting_patches: 32, rooms: 1000, sessions: 2000, epoch: 1764000000, history_weight: Some(262144), waiting_weight: Some(65536), telling_weight: Some(1048576), view_weight: Some(16384) } }
+relay serve --port 7 --admin 65535 --turns 1 => Serve { listen: 127.0.0.1, port: 7, admin: Some(65535), rounds: 1, log: false, forget_rooms: false, closed: false, output_mib: 256, origins: [], per_peer: None, store: None, settings: Settings { history: 64, max_waiting_patches: 32, rooms: 64, sessions: 256, epoch: 1764000000, history_weight: Some(262144), waiting_weight: Some(65536), telling_weight: Some(1048576), view_weight: Some(16384) } }
+relay serve --port 0 --admin 1 --turns 1 => Serve { listen: 127.0.0.1, port: 0, admin: Some(1), rounds: 1, log: false, forget_rooms: false, closed: false, output_mib: 256, origins: [], per_peer: None, store: None, settings: Settings { history: 64, max_waiting_patches: 32, rooms: 64, sessions: 256, epoch: 1764000000, history_weight: Some(262144), waiting_weight: Some(65536), telling_weight: Some(1048576), view_weight: Some(16384) } }
+relay serve --port 7 --max-output-mib 1 => Serve { listen: 127.0.0.1, port: 7, admin: None, rounds: 1000000000000, log: false, forget_rooms: false, closed: false, output_mib: 1, origins: [], per_peer: None, store: None, settings: Settings { history: 64, max_waiting_patches: 32, rooms: 64, sessions: 256, epoch: 1764000000, history_weight: Some(262144), waiting_weight: Some(65536), telling_weight: Some(1048576), view_weight: Some(16384) } }
+relay serve --port 7 --max-output-mib 1048576 => Serve { listen: 127.0.0.1, port: 7, admin: None, rounds: 1000000000000, log: false, forget_rooms: false, closed: false, output_mib: 1048576, origins: [], per_peer: None, store: None, settings: Settings { history: 64, max_waiting_patches: 32, rooms: 64, sessions: 256, epoch: 1764000000, history_weight: Some(262144), waiting_weight: Some(65536), telling_weight: Some(1048576), view_weight: Some(16384) } }
 
 # A server listens on 127.0.0.1, or on another IPv4 or IPv6 address.
-relay serve --port 7 --listen 0.0.0.0 => Serve { listen: 0.0.0.0, port: 7, admin: None, rounds: 1000000000000, log: false, forget_rooms: false, closed: false, output_mib: 256, origins: [], per_peer: None, settings: Settings { history: 64, max_waiting_patches: 32, rooms: 64, sessions: 256, epoch: 1764000000, history_weight: Some(262144), waiting_weight: Some(65536), telling_weight: Some(1048576), view_weight: Some(16384) } }
-relay serve --port 7 --listen ::1 => Serve { listen: ::1, port: 7, admin: None, rounds: 1000000000000, log: false, forget_rooms: false, closed: false, output_mib: 256, origins: [], per_peer: None, settings: Settings { history: 64, max_waiting_patches: 32, rooms: 64, sessions: 256, epoch: 1764000000, history_weight: Some(262144), waiting_weight: Some(65536), telling_weight: Some(1048576), view_weight: Some(16384) } }
+relay serve --port 7 --listen 0.0.0.0 => Serve { listen: 0.0.0.0, port: 7, admin: None, rounds: 1000000000000, log: false, forget_rooms: false, closed: false, output_mib: 256, origins: [], per_peer: None, store: None, settings: Settings { history: 64, max_waiting_patches: 32, rooms: 64, sessions: 256, epoch: 1764000000, history_weight: Some(262144), waiting_weight: Some(65536), telling_weight: Some(1048576), view_weight: Some(16384) } }
+relay serve --port 7 --listen ::1 => Serve { listen: ::1, port: 7, admin: None, rounds: 1000000000000, log: false, forget_rooms: false, closed: false, output_mib: 256, origins: [], per_peer: None, store: None, settings: Settings { history: 64, max_waiting_patches: 32, rooms: 64, sessions: 256, epoch: 1764000000, history_weight: Some(262144), waiting_weight: Some(65536), telling_weight: Some(1048576), view_weight: Some(16384) } }
 relay serve --port 7 --listen localhost => misuse
 relay serve --port 7 --listen 127.0.0.1:7 => misuse
 relay serve --port 7 --listen 127.1 => misuse
@@ -50,14 +50,14 @@ relay serve --port 7 --listen => misuse
 relay loop --listen 127.0.0.1 => misuse
 
 # A server with an operator may begin closed.
-relay serve --port 7 --admin 8 --closed => Serve { listen: 127.0.0.1, port: 7, admin: Some(8), rounds: 1000000000000, log: false, forget_rooms: false, closed: true, output_mib: 256, origins: [], per_peer: None, settings: Settings { history: 64, max_waiting_patches: 32, rooms: 64, sessions: 256, epoch: 1764000000, history_weight: Some(262144), waiting_weight: Some(65536), telling_weight: Some(1048576), view_weight: Some(16384) } }
+relay serve --port 7 --admin 8 --closed => Serve { listen: 127.0.0.1, port: 7, admin: Some(8), rounds: 1000000000000, log: false, forget_rooms: false, closed: true, output_mib: 256, origins: [], per_peer: None, store: None, settings: Settings { history: 64, max_waiting_patches: 32, rooms: 64, sessions: 256, epoch: 1764000000, history_weight: Some(262144), waiting_weight: Some(65536), telling_weight: Some(1048576), view_weight: Some(16384) } }
 relay serve --port 7 --closed => misuse
 relay serve --port 7 --admin 8 --closed 1 => misuse
 relay loop --closed => misuse
 
 # Pages of the origins that it is given may connect to a server; they are kept in their order, and as they are written.
-relay serve --port 7 --origin https://example.org => Serve { listen: 127.0.0.1, port: 7, admin: None, rounds: 1000000000000, log: false, forget_rooms: false, closed: false, output_mib: 256, origins: ["https://example.org"], per_peer: None, settings: Settings { history: 64, max_waiting_patches: 32, rooms: 64, sessions: 256, epoch: 1764000000, history_weight: Some(262144), waiting_weight: Some(65536), telling_weight: Some(1048576), view_weight: Some(16384) } }
-relay serve --origin null --port 7 --origin=https://a.example:8443 --origin null => Serve { listen: 127.0.0.1, port: 7, admin: None, rounds: 1000000000000, log: false, forget_rooms: false, closed: false, output_mib: 256, origins: ["null", "https://a.example:8443", "null"], per_peer: None, settings: Settings { history: 64, max_waiting_patches: 32, rooms: 64, sessions: 256, epoch: 1764000000, history_weight: Some(262144), waiting_weight: Some(65536), telling_weight: Some(1048576), view_weight: Some(16384) } }
+relay serve --port 7 --origin https://example.org => Serve { listen: 127.0.0.1, port: 7, admin: None, rounds: 1000000000000, log: false, forget_rooms: false, closed: false, output_mib: 256, origins: ["https://example.org"], per_peer: None, store: None, settings: Settings { history: 64, max_waiting_patches: 32, rooms: 64, sessions: 256, epoch: 1764000000, history_weight: Some(262144), waiting_weight: Some(65536), telling_weight: Some(1048576), view_weight: Some(16384) } }
+relay serve --origin null --port 7 --origin=https://a.example:8443 --origin null => Serve { listen: 127.0.0.1, port: 7, admin: None, rounds: 1000000000000, log: false, forget_rooms: false, closed: false, output_mib: 256, origins: ["null", "https://a.example:8443", "null"], per_peer: None, store: None, settings: Settings { history: 64, max_waiting_patches: 32, rooms: 64, sessions: 256, epoch: 1764000000, history_weight: Some(262144), waiting_weight: Some(65536), telling_weight: Some(1048576), view_weight: Some(16384) } }
 relay serve --port 7 --origin => misuse
 relay serve --port 7 --origin= => misuse
 relay serve --port 7 --origin foo => misuse
@@ -69,17 +69,56 @@ relay script --origin https://example.org => misuse
 relay loop --origin https://example.org => misuse
 
 # One address may have as many connections to a server as it is given, if it is.
-relay serve --port 7 --per-peer 1 => Serve { listen: 127.0.0.1, port: 7, admin: None, rounds: 1000000000000, log: false, forget_rooms: false, closed: false, output_mib: 256, origins: [], per_peer: Some(1), settings: Settings { history: 64, max_waiting_patches: 32, rooms: 64, sessions: 256, epoch: 1764000000, history_weight: Some(262144), waiting_weight: Some(65536), telling_weight: Some(1048576), view_weight: Some(16384) } }
-relay serve --port 7 --per-peer 1000000 => Serve { listen: 127.0.0.1, port: 7, admin: None, rounds: 1000000000000, log: false, forget_rooms: false, closed: false, output_mib: 256, origins: [], per_peer: Some(1000000), settings: Settings { history: 64, max_waiting_patches: 32, rooms: 64, sessions: 256, epoch: 1764000000, history_weight: Some(262144), waiting_weight: Some(65536), telling_weight: Some(1048576), view_weight: Some(16384) } }
+relay serve --port 7 --per-peer 1 => Serve { listen: 127.0.0.1, port: 7, admin: None, rounds: 1000000000000, log: false, forget_rooms: false, closed: false, output_mib: 256, origins: [], per_peer: Some(1), store: None, settings: Settings { history: 64, max_waiting_patches: 32, rooms: 64, sessions: 256, epoch: 1764000000, history_weight: Some(262144), waiting_weight: Some(65536), telling_weight: Some(1048576), view_weight: Some(16384) } }
+relay serve --port 7 --per-peer 1000000 => Serve { listen: 127.0.0.1, port: 7, admin: None, rounds: 1000000000000, log: false, forget_rooms: false, closed: false, output_mib: 256, origins: [], per_peer: Some(1000000), store: None, settings: Settings { history: 64, max_waiting_patches: 32, rooms: 64, sessions: 256, epoch: 1764000000, history_weight: Some(262144), waiting_weight: Some(65536), telling_weight: Some(1048576), view_weight: Some(16384) } }
 relay serve --port 7 --per-peer 0 => misuse
 relay serve --port 7 --per-peer 1000001 => misuse
 relay serve --port 7 --per-peer 2 --per-peer 3 => misuse
 relay script --per-peer 1 => misuse
 relay loop --per-peer 1 => misuse
 
+# A server keeps its documents in the file that it is given, whose epoch is the store's own.
+relay serve --port 7 --store relay.db => Serve { listen: 127.0.0.1, port: 7, admin: None, rounds: 1000000000000, log: false, forget_rooms: false, closed: false, output_mib: 256, origins: [], per_peer: None, store: Some("relay.db"), settings: Settings { history: 64, max_waiting_patches: 32, rooms: 64, sessions: 256, epoch: 1764000000, history_weight: Some(262144), waiting_weight: Some(65536), telling_weight: Some(1048576), view_weight: Some(16384) } }
+relay serve --store=./--epoch --port 7 => Serve { listen: 127.0.0.1, port: 7, admin: None, rounds: 1000000000000, log: false, forget_rooms: false, closed: false, output_mib: 256, origins: [], per_peer: None, store: Some("./--epoch"), settings: Settings { history: 64, max_waiting_patches: 32, rooms: 64, sessions: 256, epoch: 1764000000, history_weight: Some(262144), waiting_weight: Some(65536), telling_weight: Some(1048576), view_weight: Some(16384) } }
+relay serve --port 7 --store => misuse
+relay serve --port 7 --store= => misuse
+relay serve --port 7 --store= --epoch 3 => misuse
+relay serve --port 7 --store a.db --store b.db => misuse
+relay serve --port 7 --store a.db --epoch 3 => misuse
+relay serve --epoch=0 --port 7 --store=a.db => misuse
+timeless relay serve --port 7 --store a.db => misuse
+relay script --store a.db => misuse
+relay loop --store a.db => misuse
+relay follow --store a.db => misuse
+
+# A tool for a store takes its file, and `show` a room.
+relay store list --store a.db => Store(StoreJob { file: "a.db", tool: List })
+relay store --store=a.db export => Store(StoreJob { file: "a.db", tool: Export })
+timeless relay store import --store a.db => Store(StoreJob { file: "a.db", tool: Import })
+relay store show --store a.db board => Store(StoreJob { file: "a.db", tool: Show("board") })
+relay store show board --store a.db => Store(StoreJob { file: "a.db", tool: Show("board") })
+relay store --store a.db -- show --store => Store(StoreJob { file: "a.db", tool: Show("--store") })
+relay store --store a.db => misuse
+relay store => misuse
+relay store list => misuse
+relay store list --store => misuse
+relay store list --store= => misuse
+relay store list --store a.db --store b.db => misuse
+relay store list a.db => misuse
+relay store list --store a.db board => misuse
+relay store export --store a.db board => misuse
+relay store import --store a.db board => misuse
+relay store show --store a.db => misuse
+relay store show --store a.db board lobby => misuse
+relay store LIST --store a.db => misuse
+relay store frob --store a.db => misuse
+relay store frob --store a.db board => misuse
+relay store list --store a.db --epoch 1 => misuse
+relay list --store a.db => misuse
+
 # A server's epoch is the seconds since 1970, or the one that it is given; without a clock it has to be given one.
-relay serve --port 7 --epoch 3 => Serve { listen: 127.0.0.1, port: 7, admin: None, rounds: 1000000000000, log: false, forget_rooms: false, closed: false, output_mib: 256, origins: [], per_peer: None, settings: Settings { history: 64, max_waiting_patches: 32, rooms: 64, sessions: 256, epoch: 3, history_weight: Some(262144), waiting_weight: Some(65536), telling_weight: Some(1048576), view_weight: Some(16384) } }
-timeless relay serve --port 7 --epoch 3 => Serve { listen: 127.0.0.1, port: 7, admin: None, rounds: 1000000000000, log: false, forget_rooms: false, closed: false, output_mib: 256, origins: [], per_peer: None, settings: Settings { history: 64, max_waiting_patches: 32, rooms: 64, sessions: 256, epoch: 3, history_weight: Some(262144), waiting_weight: Some(65536), telling_weight: Some(1048576), view_weight: Some(16384) } }
+relay serve --port 7 --epoch 3 => Serve { listen: 127.0.0.1, port: 7, admin: None, rounds: 1000000000000, log: false, forget_rooms: false, closed: false, output_mib: 256, origins: [], per_peer: None, store: None, settings: Settings { history: 64, max_waiting_patches: 32, rooms: 64, sessions: 256, epoch: 3, history_weight: Some(262144), waiting_weight: Some(65536), telling_weight: Some(1048576), view_weight: Some(16384) } }
+timeless relay serve --port 7 --epoch 3 => Serve { listen: 127.0.0.1, port: 7, admin: None, rounds: 1000000000000, log: false, forget_rooms: false, closed: false, output_mib: 256, origins: [], per_peer: None, store: None, settings: Settings { history: 64, max_waiting_patches: 32, rooms: 64, sessions: 256, epoch: 3, history_weight: Some(262144), waiting_weight: Some(65536), telling_weight: Some(1048576), view_weight: Some(16384) } }
 timeless relay serve --port 7 => misuse
 timeless relay script --epoch 7 => Script(Settings { history: 64, max_waiting_patches: 32, rooms: 64, sessions: 256, epoch: 7, history_weight: None, waiting_weight: None, telling_weight: None, view_weight: None })
 timeless relay loop => Loop(Settings { history: 64, max_waiting_patches: 32, rooms: 64, sessions: 256, epoch: 1, history_weight: None, waiting_weight: None, telling_weight: None, view_weight: None })
@@ -133,6 +172,9 @@ finds relay serve --help: --listen <ADDRESS> => true
 finds relay serve --help: --closed => true
 finds relay serve --help: --origin <ORIGIN> => true
 finds relay serve --help: --per-peer <N> => true
+finds relay serve --help: --store <FILE> => true
+finds relay store --help: --store <FILE> => true
+finds relay store --help: relay store export --store relay.db > relay.jsonl => true
 finds relay loop --help: relay loop < examples/first.script => true
 finds relay follow --help: | relay follow => true
 finds relay serve --help: it sleeps while nothing happens => true

@@ -1,7 +1,7 @@
 //! Tests of the program's jobs and their statuses.
 use crate::options::words_of;
 use crate::story::{kind_of, on_one_line, typed, with_end, with_status};
-use relay_server::{ScriptFault, refuse_words, report, run_follow, start};
+use relay_server::{ScriptFault, StoreOpener, refuse_words, report, run_follow, start};
 use relay_test_stream::{Subject, cut, play};
 use std::alloc::{AllocGlobal, Global};
 use std::net::Net;
@@ -53,7 +53,7 @@ fn does_what_its_words_say(rt: HostRuntime) {
 #[derive(Clone, Copy)]
 struct Program;
 
-impl<R: AllocGlobal + Clock + Net> Subject<R> for Program {
+impl<R: AllocGlobal + Clock + Net + StoreOpener> Subject<R> for Program {
     fn act(&mut self, rt: &R, act: &str) -> Option<String> {
         let alloc = rt.alloc();
         let (word, rest) = cut(act);
@@ -104,7 +104,7 @@ fn followed(alloc: Global, lines: &str) -> Option<String> {
 
 /// Runs a command line over an input. Returns the output, followed by the status.
 pub fn run(
-    rt: &(impl AllocGlobal + Clock + Net),
+    rt: &(impl AllocGlobal + Clock + Net + StoreOpener),
     line: &str,
     text: &str,
     errors: &mut Vec<u8>,
@@ -117,7 +117,7 @@ pub fn run(
 }
 
 /// Tells whether the program wrote to standard error, its output, and its status.
-fn done(rt: &(impl AllocGlobal + Clock + Net), act: &str) -> Option<String> {
+fn done(rt: &(impl AllocGlobal + Clock + Net + StoreOpener), act: &str) -> Option<String> {
     let (line, input) = act.split_once(" < ").unwrap_or((act, ""));
     let input = typed(rt.alloc(), input)?;
     let mut errors = Vec::new(rt.alloc());
@@ -126,7 +126,10 @@ fn done(rt: &(impl AllocGlobal + Clock + Net), act: &str) -> Option<String> {
 }
 
 /// Tells whether the program's help has a part, whether it wrote to standard error, and its status.
-fn found_in_help(rt: &(impl AllocGlobal + Clock + Net), part: &str) -> Option<String> {
+fn found_in_help(
+    rt: &(impl AllocGlobal + Clock + Net + StoreOpener),
+    part: &str,
+) -> Option<String> {
     let mut errors = Vec::new(rt.alloc());
     let told = run(rt, "relay --help", "", &mut errors)?;
     let told = if told.contains(part) && told.ends_with("status 0") {

@@ -1,6 +1,7 @@
 //! Tests of the output of `serve`.
 use crate::program::{run, with_complaint};
 use crate::story::{on_one_line, text_of};
+use relay_server::StoreOpener;
 use relay_test_stream::{Subject, cut, play};
 use std::alloc::AllocGlobal;
 use std::net::{Ipv4Addr, Net, OpenListener, SocketAddr};
@@ -23,7 +24,7 @@ fn serve_says_where_it_listens(rt: HostRuntime) {
 #[derive(Clone, Copy)]
 struct Sockets;
 
-impl<R: AllocGlobal + Clock + Net> Subject<R> for Sockets {
+impl<R: AllocGlobal + Clock + Net + StoreOpener> Subject<R> for Sockets {
     fn act(&mut self, rt: &R, act: &str) -> Option<String> {
         let alloc = rt.alloc();
         let (word, _) = cut(act);
@@ -37,7 +38,7 @@ impl<R: AllocGlobal + Clock + Net> Subject<R> for Sockets {
 }
 
 /// The text that a server wrote, without the port that the system chose.
-fn served(rt: &(impl AllocGlobal + Clock + Net), line: &str) -> Option<String> {
+fn served(rt: &(impl AllocGlobal + Clock + Net + StoreOpener), line: &str) -> Option<String> {
     let mut errors = Vec::new(rt.alloc());
     let told = run(rt, line, "", &mut errors)?;
     let told = told.as_str();
@@ -48,7 +49,7 @@ fn served(rt: &(impl AllocGlobal + Clock + Net), line: &str) -> Option<String> {
 }
 
 /// The text that a server writes at a port that is in use.
-fn refused_port(rt: &(impl AllocGlobal + Clock + Net)) -> Option<String> {
+fn refused_port(rt: &(impl AllocGlobal + Clock + Net + StoreOpener)) -> Option<String> {
     let taken = rt.bind(SocketAddr::from((Ipv4Addr::LOCALHOST, 0)));
     let taken = taken.ok()?;
     let address = taken.local_addr().ok()?;
@@ -63,7 +64,7 @@ fn refused_port(rt: &(impl AllocGlobal + Clock + Net)) -> Option<String> {
 }
 
 /// The status of a server at a port that is in use, and its error output.
-fn refused_at(rt: &(impl AllocGlobal + Clock + Net), port: u16) -> Option<String> {
+fn refused_at(rt: &(impl AllocGlobal + Clock + Net + StoreOpener), port: u16) -> Option<String> {
     let line = format!(in rt.alloc(); "relay serve --port {port} --turns 1 --epoch 2");
     let line = line.ok()?;
     let mut errors = Vec::new(rt.alloc());

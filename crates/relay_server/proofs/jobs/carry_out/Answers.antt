@@ -66,3 +66,17 @@ returns-in-Serve g c =
       refl,
       (ran.result, c.report_sockets-in-Serve.ensures, ran.ensures.bad_limit, ran.ensures.ends),
     )
+
+pub returns-in-Store : goal.returns-in-Store
+returns-in-Store g c =
+    let input = g.R.Read.remaining c.args.reader.now in
+    let old = g.W.Write.contents c.args.writer.now in
+    let used = c.use_tool-ended in
+    let left = g.R.Read.remaining used.new.reader in
+    let new = g.W.Write.contents used.new.writer in
+    JobEnds-at _ _ _ input left old new c.in-Store.is (
+      used.result,
+      c.report_tool.ensures,
+      used.ensures.reads,
+      used.ensures.ends,
+    )

@@ -2,8 +2,9 @@
 use Rattle.std.proofs.Common.{◌≡◌}
 use Rattle.std.proofs.lemmas.Result.{err_from_is_err_and}
 use Rattle.relay_event_loop.specs.Connections.{made_by, made_after}
+use Rattle.relay_server.proofs.KeptLemmas.{begun_stood}
 use Rattle.relay_server.proofs.ServeLemmas.{front_made, headline_after, headline_begun}
-use Rattle.relay_server.proofs.ServeLemmas.{then_all_made, then_part_made}
+use Rattle.relay_server.proofs.ServeLemmas.{part_whole, then_all_made, then_part_made}
 use Rattle.relay_server.proofs.serve.host_administered.Goals as goal
 
 pub returns-in_err-tell-clause-stopped : goal.returns-in_err-tell-clause-stopped
@@ -24,8 +25,16 @@ returns-clause-stopped g c =
     c.in_ok-tell.ensures.ok c.tell-2.ensures.err
 
 pub returns-in_err-tell-clause-headline : goal.returns-in_err-tell-clause-headline
-returns-in_err-tell-clause-headline g c = headline_begun _ c.requires.begins
+returns-in_err-tell-clause-headline g c = headline_begun _ (begun_stood c.requires.begins)
 
 pub returns-clause-headline : goal.returns-clause-headline
 returns-clause-headline g c =
-    headline_after _ c.requires.begins c.run_administered-made.ensures.rounds
+    headline_after _ (begun_stood c.requires.begins) c.run_administered-made.ensures.rounds
+
+pub returns-then-is_lost-clause-stopped : goal.returns-then-is_lost-clause-stopped
+returns-then-is_lost-clause-stopped g c =
+    front_made _ _ _ c.args.rounds (part_whole _ _ _ c.in_ok-tell.ensures.ok)
+
+pub returns-then-is_lost-clause-headline : goal.returns-then-is_lost-clause-headline
+returns-then-is_lost-clause-headline g c =
+    headline_after _ (begun_stood c.requires.begins) c.run_administered-made.ensures.rounds
