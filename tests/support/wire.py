@@ -18,6 +18,10 @@ class Ended(Exception):
     """The relay ended the connection, or refused the opening; the words say how."""
 
 
+class Refused(Ended):
+    """The relay refused the opening, with another status than 101."""
+
+
 def frame(content, opcode=TEXT, is_last=True):
     """A frame as a client sends it: a whole text message, or a fragment of one."""
     length = len(content).to_bytes(8, "big")
@@ -82,7 +86,7 @@ class Client:
         self.send((HANDSHAKE % room).encode())
         status = self._head().split(b"\r\n")[0].decode()
         if not status.startswith("HTTP/1.1 101 "):
-            raise Ended(f"refused by {status}")
+            raise Refused(f"refused by {status}")
         self.welcome = self.message()
 
     def __enter__(self):
