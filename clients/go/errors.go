@@ -6,6 +6,7 @@ import (
 	"net/http"
 	"net/url"
 	"regexp"
+	"strings"
 )
 
 var (
@@ -64,17 +65,21 @@ func (r *Refused) Error() string {
 // on trying, but for a first answer that is a 404: then the address is none of a room. A board that
 // is ReadOnly goes on also then: the room may begin later.
 type HandshakeFailed struct {
-	URL    string
-	Status int   // of the answer, as 404; 0 if nothing answered
-	Err    error // of the library
+	URL    string // as it may be shown, without a password
+	Status int    // of the answer, as 404; 0 if nothing answered
+	Err    error  // of the library
 }
 
 func (h *HandshakeFailed) Error() string {
+	shown := shownAddress(h.URL)
 	if h.Status == 0 {
 		advice := "start the relay there, or check the address, the port and --per-peer"
-		return fmt.Sprintf("relay: nothing answers at %s: %s (%v)", h.URL, advice, h.Err)
+		if strings.HasPrefix(h.URL, "wss") {
+			advice += ", or take ws://: the relay itself has no TLS"
+		}
+		return fmt.Sprintf("relay: nothing answers at %s: %s (%v)", shown, advice, h.Err)
 	}
-	words := fmt.Sprintf("relay: %s refuses the connection, with %d", h.URL, h.Status)
+	words := fmt.Sprintf("relay: %s refuses the connection, with %d", shown, h.Status)
 	if h.Status == http.StatusNotFound {
 		return words + ": " + notFound(h.URL)
 	}
@@ -86,6 +91,8 @@ func (h *HandshakeFailed) Error() string {
 
 // causes are of the statuses that say it by themselves.
 var causes = map[int]string{
+	http.StatusOK:                 noRooms,
+	http.StatusUnauthorized:       "the name or the password is missing or wrong",
 	http.StatusForbidden:          "it lets no page of this origin in (--origin)",
 	http.StatusTooManyRequests:    "too many requests or connections of this address",
 	http.StatusServiceUnavailable: "it is full (--sessions, --rooms), --closed, or stopping",
@@ -99,18 +106,30 @@ var (
 	watched = regexp.MustCompile(`^wss?://[^?#]+/rooms/[\w-]{1,64}/watch$`)
 )
 
+// user is what stands before the host: a name and a password, or a token. A password that is not
+// escaped may have a slash, so it ends at the last @.
+var user = regexp.MustCompile(`(?s)^([\w+.-]+:)?([/\\]*)([^:]*:)?.*@`)
+
+// shownAddress is an address as it may be shown: with *** in place of a password, or of a name that
+// has none.
+func shownAddress(address string) string {
+	return user.ReplaceAllString(address, "${1}${2}${3}***@")
+}
+
+const noRooms = "what answers there has no rooms, or is the --admin port"
+
 // notFound says what is wrong with an address, as far as it shows.
 func notFound(address string) string {
 	parts, err := url.Parse(address)
 	switch {
 	case watched.MatchString(address):
-		return "there is no room of this name yet, or what answers there has no rooms to watch"
+		return "there is no room of this name yet, or " + noRooms
 	case err == nil && !ofRoom.MatchString(parts.Path):
-		return "a room is at /rooms/NAME, and this path is " + parts.Path
+		return "a room is at /rooms/NAME, and this path is " + shownAddress(parts.Path)
 	case err == nil && parts.RawQuery != "":
 		return "leave out the `?` and what follows"
 	default:
-		return "what answers there has no rooms"
+		return noRooms
 	}
 }
 

@@ -2,8 +2,11 @@ package relay
 
 import (
 	"context"
+	"errors"
 	"fmt"
 	"net"
+	"net/http"
+	"net/url"
 	"regexp"
 	"sync"
 	"time"
@@ -29,22 +32,23 @@ var room = regexp.MustCompile(`^wss?://[^/?#]+/([^?#]*/)?rooms/[A-Za-z0-9_-]{1,6
 
 // Connect enters a room, as ws://127.0.0.1:8080/rooms/board, and comes back to it until the context
 // is done or the board is closed. It fails if the address is none of a room, and as ConnectBy does.
-func Connect(ctx context.Context, url string, view []Shown, options Options) (*Board, error) {
-	if watched.MatchString(url) && !room.MatchString(url) {
-		return nil, fmt.Errorf("relay: leave out `/watch`, and use Options.ReadOnly: %q", url)
+func Connect(ctx context.Context, address string, view []Shown, options Options) (*Board, error) {
+	shown := shownAddress(address)
+	if watched.MatchString(address) && !room.MatchString(address) {
+		return nil, fmt.Errorf("relay: leave out `/watch`, and use Options.ReadOnly: %q", shown)
 	}
-	if !room.MatchString(url) {
-		return nil, fmt.Errorf("relay: not the address of a room: %q", url)
+	if _, err := url.Parse(address); err != nil || !room.MatchString(address) {
+		return nil, fmt.Errorf("relay: not the address of a room: %q", shown)
 	}
 	if options.ReadOnly {
-		url = WatchAddress(url)
+		address = WatchAddress(address)
 	}
-	return ConnectBy(ctx, WebSocket(url), view, options)
+	return ConnectBy(ctx, WebSocket(address), view, options)
 }
 
 // WebSocket makes connections to an address, as Connect does.
-func WebSocket(url string) Dial {
-	return func(ctx context.Context) (Socket, error) { return open(ctx, url, usual) }
+func WebSocket(address string) Dial {
+	return func(ctx context.Context) (Socket, error) { return open(ctx, address, usual) }
 }
 
 // line is a connection that fails once it is dead. Its reader sets both times.
@@ -75,7 +79,13 @@ type webSocket struct {
 	once   sync.Once
 }
 
-func open(ctx context.Context, url string, alive keepalive) (Socket, error) {
+func open(ctx context.Context, address string, alive keepalive) (Socket, error) {
+	failed := &HandshakeFailed{URL: shownAddress(address)}
+	target, head, err := apart(address)
+	if err != nil {
+		failed.Err = err
+		return nil, failed
+	}
 	var below *line
 	dialer := *websocket.DefaultDialer
 	dialer.NetDialContext = func(ctx context.Context, network, address string) (net.Conn, error) {
@@ -87,9 +97,9 @@ func open(ctx context.Context, url string, alive keepalive) (Socket, error) {
 		below.pong()
 		return below, nil
 	}
-	conn, answer, err := dialer.DialContext(ctx, url, nil)
+	conn, answer, err := dialer.DialContext(ctx, target, head)
 	if err != nil {
-		failed := &HandshakeFailed{URL: url, Err: err}
+		failed.Err = err
 		if answer != nil {
 			failed.Status = answer.StatusCode
 		}
@@ -100,6 +110,22 @@ func open(ctx context.Context, url string, alive keepalive) (Socket, error) {
 	socket.texts = make(chan string, onTheWay)
 	go socket.write()
 	return socket, nil
+}
+
+// apart gives the address without a name and a password, which the library does not take, and the
+// head that has them.
+func apart(address string) (string, http.Header, error) {
+	parts, err := url.Parse(address)
+	if err != nil {
+		return "", nil, errors.New("no address") // what the library says of it has the password
+	}
+	asked := http.Request{Header: http.Header{}}
+	if parts.User != nil {
+		password, _ := parts.User.Password()
+		asked.SetBasicAuth(parts.User.Username(), password)
+		parts.User = nil
+	}
+	return parts.String(), asked.Header, nil
 }
 
 func (s *webSocket) Read() (string, error) {

@@ -206,7 +206,8 @@ func watching(t *testing.T, dial Dial, wait time.Duration) (*Board, chan State, 
 }
 
 func TestWhoOnlyWatchesWaitsUntilTheRoomIsThere(t *testing.T) {
-	advice := "there is no room of this name yet, or what answers there has no rooms to watch"
+	advice := "there is no room of this name yet, or what answers there has no rooms, or is the " +
+		"--admin port"
 	for _, path := range []string{"/rooms/a/watch", "/b/rooms/a/watch"} {
 		address := refusing(t, 3) + path
 		board, states, causes := watching(t, WebSocket(address), time.Millisecond)
@@ -255,6 +256,8 @@ func TestAnAddressThatOnlyWatchesMayBeWrongAsWell(t *testing.T) {
 
 func TestEachStatusThatIsTriedAgainSaysItsOwnThing(t *testing.T) {
 	for status, words := range map[int]string{
+		200: ": what answers there has no rooms, or is the --admin port",
+		401: ": the name or the password is missing or wrong",
 		403: ": it lets no page of this origin in (--origin)",
 		429: ": too many requests or connections of this address",
 		502: "",
@@ -271,6 +274,67 @@ func TestEachStatusThatIsTriedAgainSaysItsOwnThing(t *testing.T) {
 		"address, the port and --per-peer (refused)"
 	if silent.Error() != wanted {
 		t.Errorf("%v, and not %s", silent.Error(), wanted)
+	}
+	secure := HandshakeFailed{URL: "wss://h/rooms/a", Err: errors.New("refused")}
+	wanted = "--per-peer, or take ws://: the relay itself has no TLS (refused)"
+	if !strings.HasSuffix(secure.Error(), wanted) {
+		t.Errorf("%v, and not %s", secure.Error(), wanted)
+	}
+}
+
+func TestNoMessageHasThePasswordOfAnAddress(t *testing.T) {
+	for address, shown := range map[string]string{
+		"ws://anna:secret@127.0.0.1:1/rooms/a": "ws://anna:***@127.0.0.1:1/rooms/a",
+		"wss://anna:s:cr@secret@h/rooms/a":     "wss://anna:***@h/rooms/a",
+		"ws://anna:pa/secret@h/rooms/a":        "ws://anna:***@h/rooms/a",
+		"ws://anna:secret@h/a":                 "ws://anna:***@h/a",
+		"ws://secret@h:8080/rooms/a":           "ws://***@h:8080/rooms/a",
+		"anna:secret@h/rooms/a":                "anna:***@h/rooms/a",
+		"ws://h:8080/rooms/a":                  "ws://h:8080/rooms/a",
+	} {
+		failed := HandshakeFailed{URL: address, Status: 503}
+		if !strings.HasPrefix(failed.Error(), "relay: "+shown+" refuses the connection") {
+			t.Error(failed.Error())
+		}
+	}
+	for _, address := range []string{"ws://anna:secret@h/a", "ws://anna:secret/a@h/rooms/a"} {
+		_, err := Connect(context.Background(), address, View(""), Options{})
+		if err == nil || strings.Contains(err.Error(), "secret") {
+			t.Error(err)
+		}
+	}
+	for _, address := range []string{
+		"ws://anna:secret@127.0.0.1:1/rooms/a", "ws://anna:secret/a@h/rooms/a",
+	} {
+		_, err := WebSocket(address)(soon(t))
+		if err == nil || strings.Contains(fmt.Sprintf("%+v %v", err, err), "secret") {
+			t.Error(err)
+		}
+		var failed *HandshakeFailed
+		if !errors.As(err, &failed) || strings.Contains(failed.URL, "secret") {
+			t.Error(failed)
+		}
+	}
+}
+
+func TestANameAndAPasswordAreSent(t *testing.T) {
+	named := func(writer http.ResponseWriter, asked *http.Request) {
+		name, password, _ := asked.BasicAuth()
+		if name != "anna" || password != "sec/ret" {
+			writer.WriteHeader(http.StatusUnauthorized)
+			return
+		}
+		writer.WriteHeader(http.StatusTeapot)
+	}
+	proxy := httptest.NewServer(http.HandlerFunc(named))
+	defer proxy.Close()
+	host := strings.TrimPrefix(proxy.URL, "http://")
+	for user, status := range map[string]int{"anna:sec%2Fret@": 418, "anna:other@": 401, "": 401} {
+		_, err := WebSocket("ws://" + user + host + "/rooms/a")(soon(t))
+		var failed *HandshakeFailed
+		if !errors.As(err, &failed) || failed.Status != status {
+			t.Errorf("%q: %v", user, err)
+		}
 	}
 }
 

@@ -199,7 +199,10 @@ export interface Options<
    * counter for its edits that are `once`.
    */
   once?: Pointer;
-  /** The class of the sockets; the global one, if nothing is said. */
+  /**
+   * The class of the sockets; the global one, if nothing is said. Node's own sends no name and
+   * password of an address (docs/CLIENTS.md, "Behind a password").
+   */
   WebSocket?: new (url: string) => unknown;
   /**
    * The milliseconds that the first try after a loss waits at most; each further one waits up to
@@ -225,8 +228,8 @@ export interface EditOptions {
   /** The revision at which alone it is to be done, as `rev` of the slots from which it was made. */
   base?: number | null;
   /**
-   * The run of the relay of which the base is a revision. If nothing is said, that of the slots. To
-   * be kept beside a base that is used later.
+   * The epoch of which the base is a revision. If nothing is said, that of the slots. To be kept
+   * beside a base that is used later.
    */
   epoch?: number | null;
   /** True if it shows at once. */
@@ -276,7 +279,11 @@ export interface Keyed<E> {
   remove(key: Writable, options?: ChangeOptions): Promise<number>;
   /** In front of the element with another key; to the end, where that is null. */
   move(key: Writable, before: Writable | null, options?: ChangeOptions): Promise<number>;
-  /** Puts in a new one, in front of the element with a key; at the end, where that is null. */
+  /**
+   * Puts in a new one, in front of the element with a key; at the end, where that is null. Fails
+   * with `Refused`, as `key`, where it has no key, or that of an element that is shown. Two clients
+   * that put in one key at once both may; `guard: "base"` prevents that.
+   */
   insert(value: E | Frozen<E>, before: Writable | null, options?: ChangeOptions): Promise<number>;
   /** Changes a draft of it. */
   change(
@@ -356,7 +363,7 @@ export interface Board<D = Json, V extends readonly Shown[] = readonly Shown[]> 
   readonly confirmed: SlotsOf<D, V> | null;
   /** The revision of `confirmed`; null before the first snapshot. */
   readonly rev: number | null;
-  /** The run of the relay of which it is; null before the first snapshot. */
+  /** The epoch of which it is; null before the first snapshot. */
   readonly epoch: number | null;
   /** The number of optimistic edits that wait. */
   readonly pending: number;
@@ -586,8 +593,9 @@ export class Refused extends Error {
   /**
    * The word of the fault (docs/PROTOCOL.md, "Messages"). The client itself refuses with `too-long`
    * a text of more than 1,056,768 bytes, by which the connection would end; with `away` what may
-   * not wait for the connection; with `changed` an undo of what somebody changed since; and with
-   * `read-only` each edit of a board that only watches.
+   * not wait for the connection; with `changed` an undo of what somebody changed since; with `key`
+   * an element that has no key of its own; and with `read-only` each edit of a board that only
+   * watches.
    */
   readonly fault: string;
   /**

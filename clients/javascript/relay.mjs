@@ -1,6 +1,21 @@
 // Made from src/ by build.mjs. What it is for: ../README.md; its types: relay.d.ts.
 // SPDX-License-Identifier: MIT OR Apache-2.0
 
+const addressModule = (() => {
+// The address of a room as it may be shown: a program logs messages, and a page shows them.
+
+/**
+ * The address with `***` in place of a password, or of a name that has none: that may be a token. A
+ * password that is not escaped may have a slash, so it ends at the last `@`.
+ * @param {string} url or its JSON text
+ */
+function shownAddress(url) {
+  return url.replace(/^("?[\w+.-]+:)?([/\\]*)([^:]*:)?.*@/s, "$1$2$3***@");
+}
+
+return { shownAddress };
+})();
+
 const adviceModule = (() => {
 // The advice for each word of a fault: the relay's (docs/PROTOCOL.md, "Messages"), and the client's
 // own. Every client says the same.
@@ -36,6 +51,7 @@ return { ADVICE };
 
 const errorsModule = (() => {
 // The outcomes that a request can have besides its answer.
+const { shownAddress } = addressModule;
 const { ADVICE } = adviceModule;
 
 // The kind that an error is of, whichever copy of this module made it: a program may have several,
@@ -44,6 +60,8 @@ const KIND = Symbol.for("@bolsteregret/relay: error");
 
 /** An error that is an instance of the class of its kind in each copy. */
 class Failure extends Error {
+  name = /** @type {any} */ (this)[KIND];
+
   /** @param {any} value */
   static [Symbol.hasInstance](value) {
     if (!Object.hasOwn(this.prototype, KIND)) return super[Symbol.hasInstance](value);
@@ -53,8 +71,6 @@ class Failure extends Error {
 
 /** The relay refused a request, and nothing changed by it. */
 class Refused extends Failure {
-  name = "Refused";
-
   get [KIND]() {
     return "Refused";
   }
@@ -75,8 +91,6 @@ class Refused extends Failure {
 
 /** The answer was lost: the edit may have been done, or not; `rev` is the room's revision since. */
 class Unknown extends Failure {
-  name = "Unknown";
-
   get [KIND]() {
     return "Unknown";
   }
@@ -91,7 +105,6 @@ class Unknown extends Failure {
 
 /** The board was closed, and what was asked for was not sent. */
 class Closed extends Failure {
-  name = "Closed";
   message = "the board is closed";
 
   get [KIND]() {
@@ -99,12 +112,16 @@ class Closed extends Failure {
   }
 }
 
-const SILENT = "start the relay there, or check the address, the port and --per-peer";
 const FULL = "it is full (--sessions, --rooms), --closed, or stopping";
+const NO_ROOMS = "what answers there has no rooms, or is the --admin port";
 const FOREIGN = "it lets no page of this origin in (--origin)";
 
 /** @type {Record<number, string>} */
 const CAUSES = {
+  200: NO_ROOMS,
+  401:
+    "the name or the password is wrong, or not sent: Node's own WebSocket sends neither, so give " +
+    "`connect` another one (docs/CLIENTS.md)",
   403: FOREIGN,
   429: "too many requests or connections of this address",
   503: FULL,
@@ -115,8 +132,6 @@ const CAUSES = {
  * the address is none of a room. But a room that is only watched may begin later.
  */
 class HandshakeFailed extends Failure {
-  name = "HandshakeFailed";
-
   get [KIND]() {
     return "HandshakeFailed";
   }
@@ -127,10 +142,18 @@ class HandshakeFailed extends Failure {
    * @param {number | null} [status]
    */
   constructor(reason, url, status = null) {
-    super(reason === "refused" ? refusal(url, status) : `nothing answers at ${url}: ${SILENT}`);
+    const shown = shownAddress(url);
+    super(reason === "refused" ? refusal(shown, status) : silence(shown));
     this.reason = reason;
     this.status = status;
   }
+}
+
+/** @param {string} url */
+function silence(url) {
+  const plain = /^wss/.test(url) ? ", or take ws://: the relay itself has no TLS" : "";
+  const advice = "start the relay there, or check the address, the port and --per-peer";
+  return `nothing answers at ${url}: ${advice}${plain}`;
 }
 
 /** @param {string} url @param {number | null} status */
@@ -141,8 +164,7 @@ function refusal(url, status) {
     const page = globalThis.location ? `${FOREIGN}, or ` : "";
     return `${refuses}: ${why(url, `${FULL}, or ${page}what answers is no relay`)}`;
   }
-  const none = `what answers there has no rooms${isWatching(url) ? " to watch" : ""}`;
-  const cause = status === 404 ? why(url, none) : CAUSES[status];
+  const cause = status === 404 ? why(url, NO_ROOMS) : CAUSES[status];
   return `${refuses}, with ${status}${cause ? `: ${cause}` : ""}`;
 }
 
@@ -531,7 +553,7 @@ function same(one, other) {
   );
 }
 
-return { DEEPEST, checked, frozen, isContainer, isObject, parsed, same };
+return { checked, frozen, isContainer, isObject, parsed, same };
 })();
 
 const patchModule = (() => {
@@ -1562,6 +1584,7 @@ const handshakeModule = (() => {
 //
 // For each question that fails Chromium writes a line to the console, beside the one that it writes
 // for the socket. So in a browser an answer holds for a while, and most tries write one line.
+const { shownAddress } = addressModule;
 const { HandshakeFailed, isWatching } = errorsModule;
 
 // The status by which the relay answers a request that is no handshake, where the room's name is
@@ -1617,6 +1640,8 @@ async function failure(url, event) {
   try {
     const { location } = globalThis;
     const address = new URL(url.replace(/^ws/, "http"), location?.href);
+    // `fetch` takes no address with a name or a password.
+    address.username = address.password = "";
     const isForeign = location && location.origin !== address.origin;
     const { status } = await fetch(address, {
       // By `no-cors` Chromium asks nothing of another origin unless it may follow redirections.
@@ -1643,7 +1668,8 @@ function checkRoom(url) {
   const [rooms, name = ""] = pathname.split("/").slice(-2);
   if (rooms !== "rooms") {
     if (isWatching(url)) throw new RangeError("leave out `/watch`, and use the option `readOnly`");
-    throw new RangeError(`an address ends with /rooms/NAME, and this path is ${pathname}`);
+    const path = shownAddress(pathname);
+    throw new RangeError(`an address ends with /rooms/NAME, and this path is ${path}`);
   }
   if (!/^[\w-]{1,64}$/.test(name)) {
     throw new RangeError(`"${name}" is no room's name: 1 to 64 ASCII letters, digits, "-" and "_"`);
@@ -1656,7 +1682,8 @@ function parsed(url) {
     return new URL(url, globalThis.location?.href);
   } catch {
     const example = "ws://127.0.0.1:8080/rooms/NAME";
-    throw new TypeError(`${JSON.stringify(url)} is no address of a room, as ${example}`);
+    const shown = shownAddress(`${JSON.stringify(url)}`);
+    throw new TypeError(`${shown} is no address of a room, as ${example}`);
   }
 }
 
@@ -2528,6 +2555,10 @@ class Keyed {
   /** @param {any} value @param {any} before @param {any} [options] @returns {Promise<number>} */
   insert(value, before, options) {
     return this.#change((list) => {
+      const key = value?.[this.#name];
+      if (key === undefined || this.indexOf(key) >= 0) {
+        throw new Refused({ fault: "key" }, `${JSON.stringify(key)} is no new key`);
+      }
       const to = this.#to(before);
       if (to === null) list.push(value);
       else list.splice(to, 0, value);
@@ -2714,8 +2745,9 @@ class Place {
     const { parents = false, ...options } = asked;
     const { slots } = this.#source;
     if (slots === null) throw new Error("the slots are not there yet");
-    const missing = parents ? this.#missing(slots) : 0;
-    if (missing > 0) return this.#setWithParents(value, { optimistic: true, ...options });
+    if (parents && this.#missing(slots) > 0) {
+      return this.#setWithParents(value, { optimistic: true, ...options });
+    }
     const operation = this.#write(this.#slot(slots), value);
     const sets = operation.op === "replace" ? operation.path : undefined;
     return this.#board.edit([operation], { optimistic: true, ...options, sets });
@@ -3094,7 +3126,7 @@ const nodeModule = (() => {
 // The parts of a draft: what was seen, each part by where it stood, and what is made of it. A part
 // keeps what it is when it is moved, so that the patch can be a move. Containers are opened when
 // they are looked into.
-const { DEEPEST, checked, isContainer, isObject } = jsonModule;
+const { checked, isContainer, isObject } = jsonModule;
 const { child } = knownModule;
 const { index, spelled } = pointerModule;
 
@@ -3120,7 +3152,7 @@ class Node {
     this.part = part;
     this.origin = origin;
     this.element = element;
-    this.#value = part.is === "value" ? part.value : undefined;
+    this.#value = this.seen;
   }
 
   get isList() {
@@ -3147,7 +3179,7 @@ class Node {
   }
 
   get kids() {
-    if (this.#kids === null) this.#open();
+    this.#open();
     return /** @type {Kids} */ (this.#kids);
   }
 
@@ -3165,7 +3197,7 @@ class Node {
    * @param {string} name
    */
   memberBefore(name) {
-    if (this.#kids === null) this.#open();
+    this.#open();
     return /** @type {Map<string, Node>} */ (this.#before).get(name);
   }
 
@@ -3180,6 +3212,7 @@ class Node {
   }
 
   #open() {
+    if (this.isOpen) return;
     const { part } = this;
     const isList = Array.isArray(this.#value);
     const parts = part.is === "container" ? part.children : partsOf(this.#value);
@@ -3226,29 +3259,33 @@ function partsOf(value) {
  * A part of what an application puts in: parts of the draft stay what they are.
  * @param {any} value
  * @param {(value: any) => Node | undefined} nodeOf
+ * @param {readonly (string | number)[]} [path]
  */
-function put(value, nodeOf) {
+function put(value, nodeOf, path) {
   const isPlain = Array.isArray(value) || (isObject(value) && !("toJSON" in value));
-  return nodeOf(value) ?? new Node({ is: "value", value: isPlain ? value : checked(value) }, null);
+  return (
+    nodeOf(value) ??
+    new Node({ is: "value", value: isPlain ? value : checked(value, path) }, null)
+  );
 }
 
 /**
  * Takes up what stands in a value that was put in, which its owner may have changed since.
  * @param {Node} node
  * @param {(value: any) => Node | undefined} nodeOf
- * @param {number} [depth]
+ * @param {readonly (string | number)[]} path
  */
-function takeUp(node, nodeOf, depth = 0) {
+function takeUp(node, nodeOf, path) {
   if (node.origin !== null || !node.isContainer || node.isOpen) return;
-  if (depth > DEEPEST) throw new TypeError("the value is too deep, or contains itself");
-  const kid = (/** @type {any} */ value) => {
-    const kid = put(value, nodeOf);
-    takeUp(kid, nodeOf, depth + 1);
+  checked(null, path); // fails at a path that is too deep
+  const kid = (/** @type {any} */ value, /** @type {string | number} */ name) => {
+    const kid = put(value, nodeOf, [...path, name]);
+    takeUp(kid, nodeOf, [...path, name]);
     return kid;
   };
   const { value } = node;
   if (Array.isArray(value)) node.kids = Array.from(value, kid);
-  else node.kids = new Map(members(value).map(([name, part]) => [name, kid(part)]));
+  else node.kids = new Map(members(value).map(([name, part]) => [name, kid(part, name)]));
 }
 
 /**
@@ -3266,6 +3303,7 @@ return { Node, put, takeUp };
 const listModule = (() => {
 // Operations on a list of a draft. What hangs on the whole list, as its length, has it noted as
 // seen; what hangs on one element, that one.
+const { put } = nodeModule;
 
 /**
  * @typedef {import("./node.mjs").Node} Node
@@ -3280,7 +3318,7 @@ const listModule = (() => {
 function methods(draft, node) {
   const list = () => node.list;
   const all = () => draft.see(node);
-  const put = (/** @type {any[]} */ values) => values.map((value) => draft.put(value));
+  const taken = (/** @type {any[]} */ values) => values.map((value) => put(value, draft.nodeOf));
   /** @type {any} */
   const own = {
     length: () => (all(), list().length),
@@ -3291,19 +3329,19 @@ function methods(draft, node) {
     set(/** @type {number} */ at, /** @type {any} */ value) {
       if (at >= list().length) all();
       if (at > list().length) throw new RangeError("a list has no holes");
-      replaceAt(draft, node, at, 1, put([value]));
+      replaceAt(draft, node, at, 1, taken([value]));
     },
     cut(/** @type {number} */ length) {
       if (length > own.length()) throw new RangeError("a list has no holes");
       replaceAt(draft, node, length, list().length - length, []);
     },
     push(/** @type {any[]} */ ...values) {
-      const made = put(values);
+      const made = taken(values);
       draft.change(node);
       list().push(...made);
       for (const kid of made) draft.pushed.set(kid, node);
     },
-    unshift: (/** @type {any[]} */ ...values) => void replaceAt(draft, node, 0, 0, put(values)),
+    unshift: (/** @type {any[]} */ ...values) => void replaceAt(draft, node, 0, 0, taken(values)),
     pop() {
       const last = own.length() - 1;
       return last < 0 ? undefined : replaceAt(draft, node, last, 1, [])[0];
@@ -3311,7 +3349,7 @@ function methods(draft, node) {
     shift: () => (list().length === 0 ? void all() : replaceAt(draft, node, 0, 1, [])[0]),
     splice(/** @type {any[]} */ ...asked) {
       const [start, count] = span(asked, list().length, all);
-      return replaceAt(draft, node, start, count, put(asked.slice(2)));
+      return replaceAt(draft, node, start, count, taken(asked.slice(2)));
     },
     /** Only who comes to the end knows how long it is. */
     *values() {
@@ -3414,7 +3452,7 @@ return { methods };
 const draftModule = (() => {
 // A draft of what a board shows, which an application changes as any value. What it reads and what
 // it addresses is noted, so that the patch can be guarded by tests of that.
-const { Node, put, takeUp } = nodeModule;
+const { Node, put } = nodeModule;
 const { isContainer } = jsonModule;
 const { index, spelled } = pointerModule;
 const { methods } = listModule;
@@ -3428,8 +3466,6 @@ class Draft {
   seen = new Set(); // parts whose values the outcome hangs on
   /** @type {Set<Node>} */
   there = new Set(); // containers that were looked for
-  /** @type {Set<Node>} */
-  changed = new Set(); // containers in which something was changed
   /** @type {Map<Node, Node>} */
   pushed = new Map(); // parts that were put at the end of a list, however long it is
   isGuardedByBase = false; // no test says what was read
@@ -3471,18 +3507,8 @@ class Draft {
     return proxy;
   }
 
-  /** @param {any} value */
-  put(value) {
-    return put(value, this.#nodeOf);
-  }
-
-  /** @param {Node} node */
-  takeUp(node) {
-    takeUp(node, this.#nodeOf);
-  }
-
   /** @param {any} value @returns {Node | undefined} */
-  #nodeOf = (value) => this.#nodes.get(value);
+  nodeOf = (value) => this.#nodes.get(value);
 
   /**
    * The value of a part is read.
@@ -3520,9 +3546,7 @@ class Draft {
    * @param {Node} node
    */
   change(node) {
-    if (node.origin === null) return;
-    this.changed.add(node);
-    this.address(node.element);
+    if (node.origin !== null) this.address(node.element);
   }
 }
 
@@ -3553,7 +3577,7 @@ function listProxy(draft, node) {
     deleteProperty() {
       throw new TypeError("a list has no holes: `splice` it");
     },
-    ownKeys: () => [...Array.from({ length: own.length() }, (_, k) => String(k)), "length"],
+    ownKeys: () => Reflect.ownKeys(Array(own.length()).fill(0)),
     getOwnPropertyDescriptor(target, key) {
       if (key === "length") {
         return { ...Reflect.getOwnPropertyDescriptor(target, key), value: own.length() };
@@ -3612,7 +3636,7 @@ function setMember(draft, node, name, value) {
   node.check(name);
   const before = node.members.get(name);
   checkPlace(node, name, before !== undefined);
-  const made = draft.put(value);
+  const made = put(value, draft.nodeOf, [.../** @type {readonly string[]} */ (node.origin), name]);
   draft.change(node);
   if (before?.element === before) draft.address(before);
   node.members.set(name, made);
@@ -3715,11 +3739,10 @@ function matched(list, goal, isFree) {
   const isMatch = (/** @type {Node} */ kid, /** @type {Node} */ there) =>
     kid === there || isEqual(kid, there);
   for (const kid of goal) if (left.has(kid)) match(kid, kid);
-  for (const ends of [fromStart(list, goal), fromEnd(list, goal)]) {
-    for (const [there, kid] of ends) {
-      if (!isMatch(kid, there)) break;
-      match(kid, there);
-    }
+  const backwards = [[...list].reverse(), [...goal].reverse()];
+  for (const [there, kids] of [[list, goal], backwards]) {
+    const end = Math.min(there.length, kids.length);
+    for (let k = 0; k < end && isMatch(kids[k], there[k]); k += 1) match(kids[k], there[k]);
   }
   const equal = queues([...left].filter((there) => isFree(there)));
   for (const kid of goal) {
@@ -3746,17 +3769,6 @@ function queues(kids) {
   return queues;
 }
 
-/** @param {readonly Node[]} list @param {readonly Node[]} goal @returns {[Node, Node][]} */
-function fromStart(list, goal) {
-  const length = Math.min(list.length, goal.length);
-  return Array.from({ length }, (_, k) => [list[k], goal[k]]);
-}
-
-/** @param {readonly Node[]} list @param {readonly Node[]} goal @returns {[Node, Node][]} */
-function fromEnd(list, goal) {
-  return fromStart([...list].reverse(), [...goal].reverse());
-}
-
 return { matched };
 })();
 
@@ -3764,7 +3776,7 @@ const settledModule = (() => {
 // In which container each part of what was seen stands in a draft. A part that an application put
 // into several places stands in one of them, if it can where it stood, and is a value in the
 // others.
-const { Node } = nodeModule;
+const { Node, takeUp } = nodeModule;
 const { same } = jsonModule;
 
 /**
@@ -3807,8 +3819,8 @@ function live(draft) {
   const find = (/** @type {Node} */ node) => {
     if (found.has(node) || node.origin === null || !node.isOpen) return;
     found.add(node);
-    for (const kid of node.kids.values()) draft.takeUp(kid);
     for (const [name, kid] of node.kids.entries()) {
+      takeUp(kid, draft.nodeOf, [...node.origin, name]);
       if (kid.origin !== null) find(kid);
       else if (!node.isList && kid.isOpen) exchanged.push([node, String(name), kid]);
     }
@@ -3961,14 +3973,12 @@ class Difference {
     const from = this.#path(kid);
     const before = members.get(name);
     if (from !== null) {
-      this.#take(kid);
-      this.#emit(node, { op: "move", from: spelled(from), path: this.#pathTo(node, name) });
+      this.#move(node, from, name, kid);
     } else if (before !== undefined && !before.isOpen && same(before.value, kid.value)) {
       // What is set to what it is makes no change, so it has to be that.
       this.#draft.see(before);
     } else {
-      const op = before === undefined ? "add" : "replace";
-      this.#emit(node, { op, path: this.#pathTo(node, name), value: this.#valueOf(kid) });
+      this.#write(node, before === undefined ? "add" : "replace", name, kid);
     }
     if (before !== undefined) this.#holders.delete(before);
     members.set(name, kid);
@@ -4061,30 +4071,20 @@ class Difference {
     if (from !== null) {
       const was = list.indexOf(kid);
       const place = was >= 0 && was < at ? at - 1 : at;
-      this.#take(kid);
-      const path = this.#pathTo(node, String(place));
-      this.#emit(node, { op: "move", from: spelled(from), path });
+      this.#move(node, from, place, kid);
       return this.#insert(node, list, place, kid);
     }
-    const value = this.#valueOf(kid);
-    if (before === undefined || isKept(before)) {
-      this.#emit(node, { op: "add", path: this.#pathTo(node, String(at)), value });
-      return this.#insert(node, list, at, kid);
-    }
-    this.#emit(node, { op: "replace", path: this.#pathTo(node, String(at)), value });
-    this.#holders.delete(before);
-    list[at] = kid;
-    this.#holders.set(kid, node);
-    return at + 1;
+    const isAdded = before === undefined || isKept(before);
+    this.#write(node, isAdded ? "add" : "replace", at, kid);
+    if (!isAdded) this.#dropAt(list, at);
+    return this.#insert(node, list, at, kid);
   }
 
   /** @param {Node} node @param {Node[]} list @param {Node} kid */
   #pushElement(node, list, kid) {
     const from = this.#path(kid);
-    if (from !== null) this.#take(kid);
-    const path = this.#pathTo(node, "-");
-    if (from !== null) this.#emit(node, { op: "move", from: spelled(from), path });
-    else this.#emit(node, { op: "add", path, value: this.#valueOf(kid) });
+    if (from === null) this.#write(node, "add", "-", kid);
+    else this.#move(node, from, "-", kid);
     this.#insert(node, list, list.length, kid);
     this.#appended.add(kid);
   }
@@ -4105,16 +4105,34 @@ class Difference {
 
   /** @param {Node} node @param {Node[]} list @param {number} at */
   #removeAt(node, list, at) {
-    this.#emit(node, { op: "remove", path: this.#pathTo(node, String(at)) });
+    this.#emit(node, { op: "remove", path: this.#pathTo(node, at) });
+    this.#dropAt(list, at);
+  }
+
+  /** @param {Node[]} list @param {number} at */
+  #dropAt(list, at) {
     this.#holders.delete(list[at]);
     list.splice(at, 1);
   }
 
-  // Of a part of what was seen that is written as a value all of it is told.
-  /** @param {Node} kid */
-  #valueOf(kid) {
+  /**
+   * @param {Node} node @param {"add" | "replace"} op @param {string | number} token
+   * @param {Node} kid
+   */
+  #write(node, op, token, kid) {
+    const path = this.#pathTo(node, token);
+    // Of a part of what was seen that is written as a value all of it is told.
     if (kid.origin !== null) this.#draft.see(kid);
-    return kid.value;
+    this.#emit(node, { op, path, value: kid.value });
+  }
+
+  /**
+   * @param {Node} node @param {readonly string[]} from @param {string | number} token
+   * @param {Node} kid
+   */
+  #move(node, from, token, kid) {
+    this.#take(kid);
+    this.#emit(node, { op: "move", from: spelled(from), path: this.#pathTo(node, token) });
   }
 
   /** @param {Node} kid */
@@ -4134,15 +4152,14 @@ class Difference {
   #path(kid) {
     if (kid === this.#draft.root) return [];
     const holder = this.#holders.get(kid);
-    /** @type {string[] | null} */
-    const path = holder === undefined ? null : this.#path(holder);
-    if (holder === undefined || path === null) return null;
+    const path = holder && this.#path(holder);
+    if (!holder || !path) return null;
     const kids = /** @type {Kids} */ (this.#kids.get(holder));
     if (this.#appended.has(kid)) this.#draft.see(holder);
     return [...path, Array.isArray(kids) ? String(kids.indexOf(kid)) : nameOf(kids, kid)];
   }
 
-  /** @param {Node} node @param {string} token */
+  /** @param {Node} node @param {string | number} token */
   #pathTo(node, token) {
     return spelled([.../** @type {string[]} */ (this.#path(node)), token]);
   }
@@ -4269,6 +4286,7 @@ const OUTDATED = [
   "stale",
   "test-failed",
   "missing",
+  "key",
   "not-index",
   "past-end",
   "no-container",
@@ -4324,10 +4342,9 @@ function drafted({ view, slots }, make, guard, keys) {
   return guarded(draft, guard);
 }
 
-/** @param {unknown} guard */
+/** @param {string} guard */
 function checkGuard(guard) {
-  if (guard === "values" || guard === "base" || guard === "none") return;
-  throw new RangeError(`no guard: ${guard}`);
+  if (!["values", "base", "none"].includes(guard)) throw new RangeError(`no guard: ${guard}`);
 }
 
 return { change };

@@ -56,7 +56,7 @@ class Page:
             async for text in self.link:
                 message = json.loads(text)
                 if "id" in message:
-                    self.asked.pop(message["id"]).set_result(message["result"])
+                    self.asked.pop(message["id"]).set_result(message)
                 else:
                     self.told[message["method"]] = message["params"]
         except websockets.exceptions.ConnectionClosed:
@@ -66,13 +66,19 @@ class Page:
         number = next(self.ids)
         self.asked[number] = answer = asyncio.get_running_loop().create_future()
         await self.link.send(json.dumps({"id": number, "method": method, "params": words}))
-        return await answer
+        reply = await answer
+        if "error" in reply:
+            raise AssertionError(f"{method}: {reply['error']['message']}")
+        return reply["result"]
 
     async def evaluate(self, expression):
-        """The value of an expression, or of what it promises."""
-        answer = await self.say(
-            "Runtime.evaluate", expression=expression, awaitPromise=True, returnByValue=True
-        )
+        """The value of an expression, or of what it promises; None if the page is loaded anew
+        meanwhile."""
+        words = {"expression": expression, "awaitPromise": True, "returnByValue": True}
+        try:
+            answer = await self.say("Runtime.evaluate", **words)
+        except AssertionError:
+            return None
         return answer["result"].get("value")
 
     async def until(self, expression, wanted):

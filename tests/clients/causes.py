@@ -61,7 +61,7 @@ class ChromiumPage(Page):
             async for text in self.link:
                 message = json.loads(text)
                 if "id" in message:
-                    self.asked.pop(message["id"]).set_result(message["result"])
+                    self.asked.pop(message["id"]).set_result(message)
                 elif message["method"] == "Log.entryAdded":
                     self.note(message["params"]["entry"])
 

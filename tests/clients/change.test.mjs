@@ -144,6 +144,27 @@ test("elements by a key: found, changed, moved and removed, wherever they are th
   }
 });
 
+test("an element is put in by a key of its own, which no other element has", async (t) => {
+  const [board, other] = await boardsOf(t, await begunRoom(CARDS), ["/cards"], ["/cards"]);
+  const [cards, theirs] = [board, other].map((one) => one.at("/cards").byKey("id"));
+  for (const element of [{ id: "b", text: "tea" }, { text: "tea" }, "tea", null]) {
+    await assert.rejects(cards.insert(element, null), isRefused("key"));
+  }
+  const { message } = await cards.insert({ id: "b" }, "m").catch((cause) => cause);
+  assert.equal(message, 'key: "b" is no new key');
+  // Of two at once the second is refused where it asks for that.
+  const insert = (list) => list.insert({ id: "e", text: "eggs" }, null, { guard: "base" });
+  const ends = await Promise.allSettled([insert(cards), insert(theirs)]);
+  const refused = ends.filter(({ status }) => status === "rejected");
+  assert.equal(refused.length, 1);
+  assert.ok(isRefused("key")(refused[0].reason), refused[0].reason);
+  await board.sync();
+  assert.deepEqual(texts(board.at("/cards")), ["milk", "bread", "eggs"]);
+  // One that is shown still, and was just taken away.
+  await theirs.remove("e");
+  await insert(cards);
+});
+
 test("a key that no element has is looked for in fresh slots, once", async (t) => {
   let watches = 0;
   let isDeaf = false;

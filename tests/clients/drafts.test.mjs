@@ -140,6 +140,22 @@ test("a patch that would be too long is coarser, and one with too many tests has
   assert.deepEqual([many.made.isByBase, many.made.patch.length], [true, 1]);
 });
 
+test("a value that the relay would refuse is named by its place", () => {
+  const cyclic = {};
+  cyclic.self = cyclic;
+  for (const [make, place] of [
+    [(document) => (document.items[0].n = 1.25), "/items/0/n is 1.25, no whole number"],
+    [(document) => (document.items[0] = { m: { n: [0, 1.25] } }), "/items/0/m/n/1 is 1.25, no"],
+    [(document) => document.items.push({ n: 1.25 }), "/items/1/n is 1.25, no whole number"],
+    [(document) => (document.new = { "a/b": undefined }), "/new/a~1b is undefined, which JSON"],
+    [(document) => (document.new = cyclic), "is too deep, or contains itself"],
+  ]) {
+    const words = new RegExp(place);
+    const draft = new Draft(knownBy([""], [[{ items: [{ n: 1 }] }]]));
+    assert.throws(() => (make(draft.of(draft.root)), guarded(draft, "values")), words);
+  }
+});
+
 test("what a draft cannot be is said", () => {
   const draft = new Draft(knownBy(["/cards", "/people/ann", "/lists/0"], [[["milk"]], [], ["x"]]));
   const root = draft.of(draft.root);

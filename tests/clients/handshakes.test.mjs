@@ -55,7 +55,7 @@ test("who only watches waits until the room is there", async (t) => {
   assert.deepEqual(states, [...tries, "open"]);
   assert.ok(cause instanceof HandshakeFailed);
   assert.deepEqual([cause.reason, cause.status], ["refused", 404]);
-  const words = `${NO_ROOM_YET} what answers there has no rooms to watch`;
+  const words = `${NO_ROOM_YET} what answers there has no rooms, or is the --admin port`;
   assert.equal(cause.message, `${ROOM}/watch refuses the connection, with 404: ${words}`);
 });
 
@@ -76,7 +76,7 @@ test("its pauses are those of a lost connection", async (t) => {
 
 test("any other 404 is of a wrong address, and ends a board", async (t) => {
   const rows = [
-    [ROOM, {}, "what answers there has no rooms"],
+    [ROOM, {}, "what answers there has no rooms, or is the --admin port"],
     ["ws://h/b/rooms/a", {}, "a room is at /rooms/NAME, and this path is /b/rooms/a"],
     ["ws://h/rooms/a?b=c", { readOnly: true }, "leave out the `?` and what follows"],
     // A room named `watch`, behind a path. Its address tells no more than that.
@@ -91,12 +91,13 @@ test("any other 404 is of a wrong address, and ends a board", async (t) => {
 
 /**
  * A relay that answers a handshake as `answer` says, or lets it in where that gives undefined; and
- * any other request with 400, as it does where the address is good. Gives a room's address.
+ * any other request as `asked` says, with 400 as it does where the address is good. Gives a room's
+ * address.
  */
-async function played(t, answer) {
-  const server = createServer((_, reply) => reply.writeHead(400).end());
+async function played(t, answer, asked = () => 400) {
+  const server = createServer(({ headers }, reply) => reply.writeHead(asked(headers)).end());
   server.on("upgrade", ({ headers }, socket) => {
-    const status = answer();
+    const status = answer(headers);
     const closes = "Content-Length: 0\r\nConnection: close\r\n\r\n";
     if (status !== undefined) return socket.end(`HTTP/1.1 ${status} Refused\r\n${closes}`);
     const accept = createHash("sha1").update(headers["sec-websocket-key"] + GUID).digest("base64");
@@ -133,6 +134,63 @@ test("a platform that does not tell a 404 from a 503 has both said of who watche
   const own = await played(t, () => others.shift());
   const { cause: refused } = await board(t, own, {});
   assert.equal(refused.message, `${own} refuses the connection, with 503: ${full}`);
+});
+
+test("no message has the password of an address, or a name that may be a token", async (t) => {
+  const rows = [
+    ["ws://anna:secret@127.0.0.1:1/rooms/a", "ws://anna:***@127.0.0.1:1/rooms/a"],
+    ["wss://anna:s:cr@secret@h/rooms/a", "wss://anna:***@h/rooms/a"],
+    // A slash has to be escaped; where it is not, the message is of an address of another form.
+    ["ws://anna:1/secret@h/rooms/a", "ws://anna:***@h/rooms/a"],
+    ["ws://secret@h:8080/rooms/a", "ws://***@h:8080/rooms/a"],
+    ["ws://h:8080/rooms/a", "ws://h:8080/rooms/a"],
+  ];
+  const { warn } = console;
+  t.after(() => (console.warn = warn));
+  for (const [url, shown] of rows) {
+    const { cause } = await board(t, url, { WebSocket: refusing(503) });
+    assert.ok(cause.message.startsWith(`${shown} refuses the connection, with 503`), url);
+    const { message } = new HandshakeFailed("unreachable", url);
+    assert.ok(message.startsWith(`nothing answers at ${shown}: `), message);
+    const warned = [];
+    console.warn = (text) => warned.push(text);
+    const ended = connect(url, { view: ["/n"], WebSocket: refusing(404) });
+    const ready = await ended.ready.catch((cause) => cause);
+    assert.ok(warned[0].startsWith(`relay: ${shown} refuses the connection, with 404`), warned[0]);
+    assert.ok(![cause, ready, ...warned].some((told) => `${told}`.includes("secret")), warned[0]);
+  }
+  const says = (failed) => /is no address|ends with/.test(failed) && !/secret/.test(failed);
+  for (const url of ["ws://anna:pa/secret@h/rooms/a", "ws://anna:secret@h/a", "anna:secret@h/a"]) {
+    assert.throws(() => connect(url, { view: [] }), says, url);
+  }
+});
+
+test("a password that the platform does not send is what a refusal says", async (t) => {
+  const statuses = [401];
+  const named = await played(t, () => statuses.shift(), () => 401);
+  const url = named.replace("//", "//anna:secret@");
+  const { cause, ready } = await board(t, url, {});
+  assert.deepEqual(ready, [[5]]);
+  assert.deepEqual([cause.reason, cause.status], ["refused", 401]);
+  const words = "the name or the password is wrong, or not sent: Node's own WebSocket sends";
+  const shown = named.replace("//", "//anna:***@");
+  assert.ok(cause.message.startsWith(`${shown} refuses the connection, with 401: ${words}`));
+});
+
+test("sockets that are given headers send a name and a password", async (t) => {
+  const basic = `Basic ${btoa("anna:sec/ret")}`;
+  const own = await played(t, ({ authorization }) => (authorization === basic ? undefined : 401));
+  class Named extends WebSocket {
+    constructor(url) {
+      const address = new URL(url);
+      const user = [address.username, address.password].map(decodeURIComponent).join(":");
+      address.username = address.password = "";
+      super(address, { headers: { authorization: `Basic ${btoa(user)}` } });
+    }
+  }
+  const url = own.replace("//", "//anna:sec%2Fret@");
+  const { states, ready } = await board(t, url, { WebSocket: Named });
+  assert.deepEqual([states, ready], [["open"], [[5]]]);
 });
 
 test("each status that is tried again says its own thing", async (t) => {

@@ -79,6 +79,17 @@ async def tells_of_changes(page, relay):
     assert said[1].startswith("edit") and said[1].endswith("1 operation"), said
 
 
+async def asks_quietly(page):
+    """A request that only asks whether the relay is there is no fault, though it is refused."""
+    refusal = {"at": None, "fault": "shape", "id": 99, "kind": "refused"}
+    for way, message in (("sent", {"id": 99}), ("heard", refusal)):
+        await page.evaluate(f"logged({json.dumps({'way': way, 'message': message})})")
+    same((await page.evaluate(LOG))[:2], ["still there 99", "are you there? 99"])
+    colors = "[...document.querySelectorAll('#log li')].map((line) => getComputedStyle(line).color)"
+    quiet, asked, refused = (await page.evaluate(colors))[:3]
+    assert quiet == asked != refused, (quiet, asked, refused)
+
+
 async def goes_back(page, relay):
     slide = "const r = document.querySelector('#revisions'); r.value = 0; r.oninput({ target: r })"
     await page.evaluate(f"(() => {{ {slide} }})()")
@@ -121,6 +132,7 @@ async def main(folder=None):
         await shows(page, relay)
         await goes_by_keys(page)
         await tells_of_changes(page, relay)
+        await asks_quietly(page)
         await goes_back(page, relay)
         await pictures(page, folder)
         await relay.end()

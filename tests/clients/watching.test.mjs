@@ -146,7 +146,8 @@ test("what does not know the address is tried again, if its path can be right", 
   const [state, cause] = told[0];
   assert.ok(cause instanceof HandshakeFailed);
   assert.deepEqual([state, cause.status], ["waiting", 404]);
-  const yet = "there is no room of this name yet, or what answers there has no rooms to watch";
+  const noRooms = "what answers there has no rooms, or is the --admin port";
+  const yet = `there is no room of this name yet, or ${noRooms}`;
   assert.ok(cause.message.endsWith(`with 404: ${yet}`), cause.message);
   const [asked, refused] = refusedOf(t, `${newRoom()}?token=a`);
   await until(() => asked.state === "closed");

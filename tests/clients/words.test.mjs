@@ -145,6 +145,10 @@ test("without a WebSocket, and without a relay, an error says what to do", async
     "no-container at 0: what is around it is no list and no object: write that first",
   );
   assert.equal(new Refused({ fault: "unheard-of" }).message, "unheard-of");
-  const { message } = new HandshakeFailed("refused", "ws://h/rooms/a", 404);
-  assert.match(message, /with 404: what answers there has no rooms$/);
+  const secure = new HandshakeFailed("unreachable", "wss://h/rooms/a").message;
+  assert.ok(secure.endsWith(`${check}, or take ws://: the relay itself has no TLS`), secure);
+  for (const status of [200, 404]) {
+    const { message } = new HandshakeFailed("refused", "ws://h/rooms/a", status);
+    assert.match(message, /with \d+: what answers there has no rooms, or is the --admin port$/);
+  }
 });

@@ -24,6 +24,7 @@ const OUTDATED = [
   "stale",
   "test-failed",
   "missing",
+  "key",
   "not-index",
   "past-end",
   "no-container",
@@ -79,8 +80,7 @@ function drafted({ view, slots }, make, guard, keys) {
   return guarded(draft, guard);
 }
 
-/** @param {unknown} guard */
+/** @param {string} guard */
 function checkGuard(guard) {
-  if (guard === "values" || guard === "base" || guard === "none") return;
-  throw new RangeError(`no guard: ${guard}`);
+  if (!["values", "base", "none"].includes(guard)) throw new RangeError(`no guard: ${guard}`);
 }

@@ -90,14 +90,12 @@ class Difference {
     const from = this.#path(kid);
     const before = members.get(name);
     if (from !== null) {
-      this.#take(kid);
-      this.#emit(node, { op: "move", from: spelled(from), path: this.#pathTo(node, name) });
+      this.#move(node, from, name, kid);
     } else if (before !== undefined && !before.isOpen && same(before.value, kid.value)) {
       // What is set to what it is makes no change, so it has to be that.
       this.#draft.see(before);
     } else {
-      const op = before === undefined ? "add" : "replace";
-      this.#emit(node, { op, path: this.#pathTo(node, name), value: this.#valueOf(kid) });
+      this.#write(node, before === undefined ? "add" : "replace", name, kid);
     }
     if (before !== undefined) this.#holders.delete(before);
     members.set(name, kid);
@@ -190,30 +188,20 @@ class Difference {
     if (from !== null) {
       const was = list.indexOf(kid);
       const place = was >= 0 && was < at ? at - 1 : at;
-      this.#take(kid);
-      const path = this.#pathTo(node, String(place));
-      this.#emit(node, { op: "move", from: spelled(from), path });
+      this.#move(node, from, place, kid);
       return this.#insert(node, list, place, kid);
     }
-    const value = this.#valueOf(kid);
-    if (before === undefined || isKept(before)) {
-      this.#emit(node, { op: "add", path: this.#pathTo(node, String(at)), value });
-      return this.#insert(node, list, at, kid);
-    }
-    this.#emit(node, { op: "replace", path: this.#pathTo(node, String(at)), value });
-    this.#holders.delete(before);
-    list[at] = kid;
-    this.#holders.set(kid, node);
-    return at + 1;
+    const isAdded = before === undefined || isKept(before);
+    this.#write(node, isAdded ? "add" : "replace", at, kid);
+    if (!isAdded) this.#dropAt(list, at);
+    return this.#insert(node, list, at, kid);
   }
 
   /** @param {Node} node @param {Node[]} list @param {Node} kid */
   #pushElement(node, list, kid) {
     const from = this.#path(kid);
-    if (from !== null) this.#take(kid);
-    const path = this.#pathTo(node, "-");
-    if (from !== null) this.#emit(node, { op: "move", from: spelled(from), path });
-    else this.#emit(node, { op: "add", path, value: this.#valueOf(kid) });
+    if (from === null) this.#write(node, "add", "-", kid);
+    else this.#move(node, from, "-", kid);
     this.#insert(node, list, list.length, kid);
     this.#appended.add(kid);
   }
@@ -234,16 +222,34 @@ class Difference {
 
   /** @param {Node} node @param {Node[]} list @param {number} at */
   #removeAt(node, list, at) {
-    this.#emit(node, { op: "remove", path: this.#pathTo(node, String(at)) });
+    this.#emit(node, { op: "remove", path: this.#pathTo(node, at) });
+    this.#dropAt(list, at);
+  }
+
+  /** @param {Node[]} list @param {number} at */
+  #dropAt(list, at) {
     this.#holders.delete(list[at]);
     list.splice(at, 1);
   }
 
-  // Of a part of what was seen that is written as a value all of it is told.
-  /** @param {Node} kid */
-  #valueOf(kid) {
+  /**
+   * @param {Node} node @param {"add" | "replace"} op @param {string | number} token
+   * @param {Node} kid
+   */
+  #write(node, op, token, kid) {
+    const path = this.#pathTo(node, token);
+    // Of a part of what was seen that is written as a value all of it is told.
     if (kid.origin !== null) this.#draft.see(kid);
-    return kid.value;
+    this.#emit(node, { op, path, value: kid.value });
+  }
+
+  /**
+   * @param {Node} node @param {readonly string[]} from @param {string | number} token
+   * @param {Node} kid
+   */
+  #move(node, from, token, kid) {
+    this.#take(kid);
+    this.#emit(node, { op: "move", from: spelled(from), path: this.#pathTo(node, token) });
   }
 
   /** @param {Node} kid */
@@ -263,15 +269,14 @@ class Difference {
   #path(kid) {
     if (kid === this.#draft.root) return [];
     const holder = this.#holders.get(kid);
-    /** @type {string[] | null} */
-    const path = holder === undefined ? null : this.#path(holder);
-    if (holder === undefined || path === null) return null;
+    const path = holder && this.#path(holder);
+    if (!holder || !path) return null;
     const kids = /** @type {Kids} */ (this.#kids.get(holder));
     if (this.#appended.has(kid)) this.#draft.see(holder);
     return [...path, Array.isArray(kids) ? String(kids.indexOf(kid)) : nameOf(kids, kid)];
   }
 
-  /** @param {Node} node @param {string} token */
+  /** @param {Node} node @param {string | number} token */
   #pathTo(node, token) {
     return spelled([.../** @type {string[]} */ (this.#path(node)), token]);
   }

@@ -1,6 +1,6 @@
 // A draft of what a board shows, which an application changes as any value. What it reads and what
 // it addresses is noted, so that the patch can be guarded by tests of that.
-import { Node, put, takeUp } from "./node.mjs";
+import { Node, put } from "./node.mjs";
 import { isContainer } from "./json.mjs";
 import { index, spelled } from "./pointer.mjs";
 import { methods } from "./list.mjs";
@@ -14,8 +14,6 @@ export class Draft {
   seen = new Set(); // parts whose values the outcome hangs on
   /** @type {Set<Node>} */
   there = new Set(); // containers that were looked for
-  /** @type {Set<Node>} */
-  changed = new Set(); // containers in which something was changed
   /** @type {Map<Node, Node>} */
   pushed = new Map(); // parts that were put at the end of a list, however long it is
   isGuardedByBase = false; // no test says what was read
@@ -57,18 +55,8 @@ export class Draft {
     return proxy;
   }
 
-  /** @param {any} value */
-  put(value) {
-    return put(value, this.#nodeOf);
-  }
-
-  /** @param {Node} node */
-  takeUp(node) {
-    takeUp(node, this.#nodeOf);
-  }
-
   /** @param {any} value @returns {Node | undefined} */
-  #nodeOf = (value) => this.#nodes.get(value);
+  nodeOf = (value) => this.#nodes.get(value);
 
   /**
    * The value of a part is read.
@@ -106,9 +94,7 @@ export class Draft {
    * @param {Node} node
    */
   change(node) {
-    if (node.origin === null) return;
-    this.changed.add(node);
-    this.address(node.element);
+    if (node.origin !== null) this.address(node.element);
   }
 }
 
@@ -139,7 +125,7 @@ function listProxy(draft, node) {
     deleteProperty() {
       throw new TypeError("a list has no holes: `splice` it");
     },
-    ownKeys: () => [...Array.from({ length: own.length() }, (_, k) => String(k)), "length"],
+    ownKeys: () => Reflect.ownKeys(Array(own.length()).fill(0)),
     getOwnPropertyDescriptor(target, key) {
       if (key === "length") {
         return { ...Reflect.getOwnPropertyDescriptor(target, key), value: own.length() };
@@ -198,7 +184,7 @@ function setMember(draft, node, name, value) {
   node.check(name);
   const before = node.members.get(name);
   checkPlace(node, name, before !== undefined);
-  const made = draft.put(value);
+  const made = put(value, draft.nodeOf, [.../** @type {readonly string[]} */ (node.origin), name]);
   draft.change(node);
   if (before?.element === before) draft.address(before);
   node.members.set(name, made);

@@ -82,6 +82,10 @@ export class Keyed {
   /** @param {any} value @param {any} before @param {any} [options] @returns {Promise<number>} */
   insert(value, before, options) {
     return this.#change((list) => {
+      const key = value?.[this.#name];
+      if (key === undefined || this.indexOf(key) >= 0) {
+        throw new Refused({ fault: "key" }, `${JSON.stringify(key)} is no new key`);
+      }
       const to = this.#to(before);
       if (to === null) list.push(value);
       else list.splice(to, 0, value);

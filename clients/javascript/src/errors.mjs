@@ -1,4 +1,5 @@
 // The outcomes that a request can have besides its answer.
+import { shownAddress } from "./address.mjs";
 import { ADVICE } from "./advice.mjs";
 
 // The kind that an error is of, whichever copy of this module made it: a program may have several,
@@ -7,6 +8,8 @@ const KIND = Symbol.for("@bolsteregret/relay: error");
 
 /** An error that is an instance of the class of its kind in each copy. */
 class Failure extends Error {
+  name = /** @type {any} */ (this)[KIND];
+
   /** @param {any} value */
   static [Symbol.hasInstance](value) {
     if (!Object.hasOwn(this.prototype, KIND)) return super[Symbol.hasInstance](value);
@@ -16,8 +19,6 @@ class Failure extends Error {
 
 /** The relay refused a request, and nothing changed by it. */
 export class Refused extends Failure {
-  name = "Refused";
-
   get [KIND]() {
     return "Refused";
   }
@@ -38,8 +39,6 @@ export class Refused extends Failure {
 
 /** The answer was lost: the edit may have been done, or not; `rev` is the room's revision since. */
 export class Unknown extends Failure {
-  name = "Unknown";
-
   get [KIND]() {
     return "Unknown";
   }
@@ -54,7 +53,6 @@ export class Unknown extends Failure {
 
 /** The board was closed, and what was asked for was not sent. */
 export class Closed extends Failure {
-  name = "Closed";
   message = "the board is closed";
 
   get [KIND]() {
@@ -62,12 +60,16 @@ export class Closed extends Failure {
   }
 }
 
-const SILENT = "start the relay there, or check the address, the port and --per-peer";
 const FULL = "it is full (--sessions, --rooms), --closed, or stopping";
+const NO_ROOMS = "what answers there has no rooms, or is the --admin port";
 const FOREIGN = "it lets no page of this origin in (--origin)";
 
 /** @type {Record<number, string>} */
 const CAUSES = {
+  200: NO_ROOMS,
+  401:
+    "the name or the password is wrong, or not sent: Node's own WebSocket sends neither, so give " +
+    "`connect` another one (docs/CLIENTS.md)",
   403: FOREIGN,
   429: "too many requests or connections of this address",
   503: FULL,
@@ -78,8 +80,6 @@ const CAUSES = {
  * the address is none of a room. But a room that is only watched may begin later.
  */
 export class HandshakeFailed extends Failure {
-  name = "HandshakeFailed";
-
   get [KIND]() {
     return "HandshakeFailed";
   }
@@ -90,10 +90,18 @@ export class HandshakeFailed extends Failure {
    * @param {number | null} [status]
    */
   constructor(reason, url, status = null) {
-    super(reason === "refused" ? refusal(url, status) : `nothing answers at ${url}: ${SILENT}`);
+    const shown = shownAddress(url);
+    super(reason === "refused" ? refusal(shown, status) : silence(shown));
     this.reason = reason;
     this.status = status;
   }
+}
+
+/** @param {string} url */
+function silence(url) {
+  const plain = /^wss/.test(url) ? ", or take ws://: the relay itself has no TLS" : "";
+  const advice = "start the relay there, or check the address, the port and --per-peer";
+  return `nothing answers at ${url}: ${advice}${plain}`;
 }
 
 /** @param {string} url @param {number | null} status */
@@ -104,8 +112,7 @@ function refusal(url, status) {
     const page = globalThis.location ? `${FOREIGN}, or ` : "";
     return `${refuses}: ${why(url, `${FULL}, or ${page}what answers is no relay`)}`;
   }
-  const none = `what answers there has no rooms${isWatching(url) ? " to watch" : ""}`;
-  const cause = status === 404 ? why(url, none) : CAUSES[status];
+  const cause = status === 404 ? why(url, NO_ROOMS) : CAUSES[status];
   return `${refuses}, with ${status}${cause ? `: ${cause}` : ""}`;
 }
 

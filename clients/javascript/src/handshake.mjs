@@ -2,6 +2,7 @@
 //
 // For each question that fails Chromium writes a line to the console, beside the one that it writes
 // for the socket. So in a browser an answer holds for a while, and most tries write one line.
+import { shownAddress } from "./address.mjs";
 import { HandshakeFailed, isWatching } from "./errors.mjs";
 
 // The status by which the relay answers a request that is no handshake, where the room's name is
@@ -57,6 +58,8 @@ async function failure(url, event) {
   try {
     const { location } = globalThis;
     const address = new URL(url.replace(/^ws/, "http"), location?.href);
+    // `fetch` takes no address with a name or a password.
+    address.username = address.password = "";
     const isForeign = location && location.origin !== address.origin;
     const { status } = await fetch(address, {
       // By `no-cors` Chromium asks nothing of another origin unless it may follow redirections.
@@ -83,7 +86,8 @@ export function checkRoom(url) {
   const [rooms, name = ""] = pathname.split("/").slice(-2);
   if (rooms !== "rooms") {
     if (isWatching(url)) throw new RangeError("leave out `/watch`, and use the option `readOnly`");
-    throw new RangeError(`an address ends with /rooms/NAME, and this path is ${pathname}`);
+    const path = shownAddress(pathname);
+    throw new RangeError(`an address ends with /rooms/NAME, and this path is ${path}`);
   }
   if (!/^[\w-]{1,64}$/.test(name)) {
     throw new RangeError(`"${name}" is no room's name: 1 to 64 ASCII letters, digits, "-" and "_"`);
@@ -96,6 +100,7 @@ function parsed(url) {
     return new URL(url, globalThis.location?.href);
   } catch {
     const example = "ws://127.0.0.1:8080/rooms/NAME";
-    throw new TypeError(`${JSON.stringify(url)} is no address of a room, as ${example}`);
+    const shown = shownAddress(`${JSON.stringify(url)}`);
+    throw new TypeError(`${shown} is no address of a room, as ${example}`);
   }
 }

@@ -5,7 +5,7 @@ import { spelled } from "./pointer.mjs";
 
 // The relay's documents have at most 64 levels. A value past this is deeper than any, or in a
 // cycle.
-export const DEEPEST = 128;
+const DEEPEST = 128;
 
 /**
  * A copy of a value, so that what is sent is what it was when it was asked for. A `TypeError` names

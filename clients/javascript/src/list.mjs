@@ -1,5 +1,6 @@
 // Operations on a list of a draft. What hangs on the whole list, as its length, has it noted as
 // seen; what hangs on one element, that one.
+import { put } from "./node.mjs";
 
 /**
  * @typedef {import("./node.mjs").Node} Node
@@ -14,7 +15,7 @@
 export function methods(draft, node) {
   const list = () => node.list;
   const all = () => draft.see(node);
-  const put = (/** @type {any[]} */ values) => values.map((value) => draft.put(value));
+  const taken = (/** @type {any[]} */ values) => values.map((value) => put(value, draft.nodeOf));
   /** @type {any} */
   const own = {
     length: () => (all(), list().length),
@@ -25,19 +26,19 @@ export function methods(draft, node) {
     set(/** @type {number} */ at, /** @type {any} */ value) {
       if (at >= list().length) all();
       if (at > list().length) throw new RangeError("a list has no holes");
-      replaceAt(draft, node, at, 1, put([value]));
+      replaceAt(draft, node, at, 1, taken([value]));
     },
     cut(/** @type {number} */ length) {
       if (length > own.length()) throw new RangeError("a list has no holes");
       replaceAt(draft, node, length, list().length - length, []);
     },
     push(/** @type {any[]} */ ...values) {
-      const made = put(values);
+      const made = taken(values);
       draft.change(node);
       list().push(...made);
       for (const kid of made) draft.pushed.set(kid, node);
     },
-    unshift: (/** @type {any[]} */ ...values) => void replaceAt(draft, node, 0, 0, put(values)),
+    unshift: (/** @type {any[]} */ ...values) => void replaceAt(draft, node, 0, 0, taken(values)),
     pop() {
       const last = own.length() - 1;
       return last < 0 ? undefined : replaceAt(draft, node, last, 1, [])[0];
@@ -45,7 +46,7 @@ export function methods(draft, node) {
     shift: () => (list().length === 0 ? void all() : replaceAt(draft, node, 0, 1, [])[0]),
     splice(/** @type {any[]} */ ...asked) {
       const [start, count] = span(asked, list().length, all);
-      return replaceAt(draft, node, start, count, put(asked.slice(2)));
+      return replaceAt(draft, node, start, count, taken(asked.slice(2)));
     },
     /** Only who comes to the end knows how long it is. */
     *values() {

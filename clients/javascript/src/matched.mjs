@@ -21,11 +21,10 @@ export function matched(list, goal, isFree) {
   const isMatch = (/** @type {Node} */ kid, /** @type {Node} */ there) =>
     kid === there || isEqual(kid, there);
   for (const kid of goal) if (left.has(kid)) match(kid, kid);
-  for (const ends of [fromStart(list, goal), fromEnd(list, goal)]) {
-    for (const [there, kid] of ends) {
-      if (!isMatch(kid, there)) break;
-      match(kid, there);
-    }
+  const backwards = [[...list].reverse(), [...goal].reverse()];
+  for (const [there, kids] of [[list, goal], backwards]) {
+    const end = Math.min(there.length, kids.length);
+    for (let k = 0; k < end && isMatch(kids[k], there[k]); k += 1) match(kids[k], there[k]);
   }
   const equal = queues([...left].filter((there) => isFree(there)));
   for (const kid of goal) {
@@ -50,15 +49,4 @@ function queues(kids) {
     queues.set(key, [...(queues.get(key) ?? []), kid]);
   }
   return queues;
-}
-
-/** @param {readonly Node[]} list @param {readonly Node[]} goal @returns {[Node, Node][]} */
-function fromStart(list, goal) {
-  const length = Math.min(list.length, goal.length);
-  return Array.from({ length }, (_, k) => [list[k], goal[k]]);
-}
-
-/** @param {readonly Node[]} list @param {readonly Node[]} goal @returns {[Node, Node][]} */
-function fromEnd(list, goal) {
-  return fromStart([...list].reverse(), [...goal].reverse());
 }

@@ -1,7 +1,7 @@
 // The parts of a draft: what was seen, each part by where it stood, and what is made of it. A part
 // keeps what it is when it is moved, so that the patch can be a move. Containers are opened when
 // they are looked into.
-import { DEEPEST, checked, isContainer, isObject } from "./json.mjs";
+import { checked, isContainer, isObject } from "./json.mjs";
 import { child } from "./known.mjs";
 import { index, spelled } from "./pointer.mjs";
 
@@ -27,7 +27,7 @@ export class Node {
     this.part = part;
     this.origin = origin;
     this.element = element;
-    this.#value = part.is === "value" ? part.value : undefined;
+    this.#value = this.seen;
   }
 
   get isList() {
@@ -54,7 +54,7 @@ export class Node {
   }
 
   get kids() {
-    if (this.#kids === null) this.#open();
+    this.#open();
     return /** @type {Kids} */ (this.#kids);
   }
 
@@ -72,7 +72,7 @@ export class Node {
    * @param {string} name
    */
   memberBefore(name) {
-    if (this.#kids === null) this.#open();
+    this.#open();
     return /** @type {Map<string, Node>} */ (this.#before).get(name);
   }
 
@@ -87,6 +87,7 @@ export class Node {
   }
 
   #open() {
+    if (this.isOpen) return;
     const { part } = this;
     const isList = Array.isArray(this.#value);
     const parts = part.is === "container" ? part.children : partsOf(this.#value);
@@ -133,29 +134,33 @@ function partsOf(value) {
  * A part of what an application puts in: parts of the draft stay what they are.
  * @param {any} value
  * @param {(value: any) => Node | undefined} nodeOf
+ * @param {readonly (string | number)[]} [path]
  */
-export function put(value, nodeOf) {
+export function put(value, nodeOf, path) {
   const isPlain = Array.isArray(value) || (isObject(value) && !("toJSON" in value));
-  return nodeOf(value) ?? new Node({ is: "value", value: isPlain ? value : checked(value) }, null);
+  return (
+    nodeOf(value) ??
+    new Node({ is: "value", value: isPlain ? value : checked(value, path) }, null)
+  );
 }
 
 /**
  * Takes up what stands in a value that was put in, which its owner may have changed since.
  * @param {Node} node
  * @param {(value: any) => Node | undefined} nodeOf
- * @param {number} [depth]
+ * @param {readonly (string | number)[]} path
  */
-export function takeUp(node, nodeOf, depth = 0) {
+export function takeUp(node, nodeOf, path) {
   if (node.origin !== null || !node.isContainer || node.isOpen) return;
-  if (depth > DEEPEST) throw new TypeError("the value is too deep, or contains itself");
-  const kid = (/** @type {any} */ value) => {
-    const kid = put(value, nodeOf);
-    takeUp(kid, nodeOf, depth + 1);
+  checked(null, path); // fails at a path that is too deep
+  const kid = (/** @type {any} */ value, /** @type {string | number} */ name) => {
+    const kid = put(value, nodeOf, [...path, name]);
+    takeUp(kid, nodeOf, [...path, name]);
     return kid;
   };
   const { value } = node;
   if (Array.isArray(value)) node.kids = Array.from(value, kid);
-  else node.kids = new Map(members(value).map(([name, part]) => [name, kid(part)]));
+  else node.kids = new Map(members(value).map(([name, part]) => [name, kid(part, name)]));
 }
 
 /**

@@ -77,8 +77,9 @@ export class Place {
     const { parents = false, ...options } = asked;
     const { slots } = this.#source;
     if (slots === null) throw new Error("the slots are not there yet");
-    const missing = parents ? this.#missing(slots) : 0;
-    if (missing > 0) return this.#setWithParents(value, { optimistic: true, ...options });
+    if (parents && this.#missing(slots) > 0) {
+      return this.#setWithParents(value, { optimistic: true, ...options });
+    }
     const operation = this.#write(this.#slot(slots), value);
     const sets = operation.op === "replace" ? operation.path : undefined;
     return this.#board.edit([operation], { optimistic: true, ...options, sets });

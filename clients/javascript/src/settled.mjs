@@ -1,7 +1,7 @@
 // In which container each part of what was seen stands in a draft. A part that an application put
 // into several places stands in one of them, if it can where it stood, and is a value in the
 // others.
-import { Node } from "./node.mjs";
+import { Node, takeUp } from "./node.mjs";
 import { same } from "./json.mjs";
 
 /**
@@ -44,8 +44,8 @@ function live(draft) {
   const find = (/** @type {Node} */ node) => {
     if (found.has(node) || node.origin === null || !node.isOpen) return;
     found.add(node);
-    for (const kid of node.kids.values()) draft.takeUp(kid);
     for (const [name, kid] of node.kids.entries()) {
+      takeUp(kid, draft.nodeOf, [...node.origin, name]);
       if (kid.origin !== null) find(kid);
       else if (!node.isList && kid.isOpen) exchanged.push([node, String(name), kid]);
     }

@@ -11,7 +11,7 @@ from typing import Any, Callable, Coroutine, Optional, Sequence
 from . import commands
 from .commands import NoAnswer, NoRoom
 from .faults import Closed, HandshakeFailed, Refused, Unknown
-from .pointers import check_room, tokens, without_watch
+from .pointers import check_room, shown_address, tokens, without_watch
 from .values import Patch, as_json
 
 DONE, REFUSED, WRONG, NO_RELAY = 0, 1, 2, 3
@@ -36,16 +36,16 @@ A relay that listens on port 8080 runs these as they stand, in this order:
     relay-client edit ws://127.0.0.1:8080/rooms/shop - --base 1
 
 It exits with 0 if all was done, 1 if the relay refused it, 2 if the words are wrong or the address
-is none of a room, and 3 if there is no relay, or it lets nobody in, or the connection was lost
-before the answer.
+is none of a room, and 3 if there is no relay, it has no room to get, or it lets nobody in, or the
+connection was lost before the answer.
 """
 GET = """Prints the value at each pointer, by default the whole document. If one of them leads to
-nothing, it prints none and exits with 1. With /watch behind the name it begins no room: if there is
-none, it exits with 3."""
+nothing, it prints none and exits with 1. It begins no room: if there is none of this name, it exits
+with 3."""
 WATCH = """Prints {"rev":R,"slots":[..]} at first and for each change, until Ctrl-C or until nobody
 reads it any more. A slot is [value], or [] if its pointer leads to nothing. If the connection is
-lost it comes back by itself, and says so on standard error. With /watch behind the name it begins
-no room: if there is none, it says so, and waits for it however long that takes."""
+lost it comes back by itself, and says so on standard error. It begins no room: if there is none of
+this name, it says so, and waits for it however long that takes."""
 EDIT = """Applies a JSON Patch, whole or not at all, and prints {"rev":N}, the revision that it
 made."""
 
@@ -92,7 +92,7 @@ def _parser() -> argparse.ArgumentParser:
         prog="relay-client", description=ABOUT, epilog=EXAMPLES, formatter_class=shape
     )
     of_room = "as ws://127.0.0.1:8080/rooms/NAME"
-    watched = _room_words(_watched, f"{of_room}; with /watch behind it, to only watch")
+    watched = _room_words(_watched, of_room)
     room = _room_words(_room, of_room)
     jobs = parser.add_subparsers(dest="command", required=True, metavar="get|watch|edit")
     for name, help_line, about in (
@@ -129,7 +129,7 @@ def _room_words(url: Callable[[str], str], about_url: str) -> argparse.ArgumentP
 def _room(word: str) -> str:
     if without_watch(word) != word:
         advice = "leave out `/watch`: who only watches edits nothing"
-        raise argparse.ArgumentTypeError(f"{word}: {advice}")
+        raise argparse.ArgumentTypeError(f"{shown_address(word)}: {advice}")
     return _watched(word)
 
 

@@ -35,8 +35,12 @@ _NO_BASE: Any = object()
 
 def connect(url: str, *, view: View, **options: Any) -> "Board":
     """Connects to a room, as ws://127.0.0.1:8080/rooms/NAME, and comes back to it whenever the
-    connection is lost. To be called while an event loop runs. The options are those of `Board`.
-    `ValueError` if the address is none of a room, and `TypeError` if the view is no list."""
+    connection is lost. To be called while an event loop runs. `ValueError` if the address is none
+    of a room, and `TypeError` if the view is no list.
+
+    `help(relay_client.Board)` says what each option does: `on_change`, `on_state`, `on_taken_back`,
+    `first_wait`, `longest_wait`, `quiet`, `patience`, `begin`, `read_only`, `once`, `queue`,
+    `link`, `open_link`. So `link={"ssl": context}` gives the certificates to trust."""
     return Board(url, view=view, **options)
 
 

@@ -26,6 +26,7 @@ OUTDATED = (
     "stale",
     "test-failed",
     "missing",
+    "key",
     "not-index",
     "past-end",
     "no-container",

@@ -30,9 +30,10 @@ class NoRoom(Exception):
 
 class Room:
     """A board, for whoever waits for one answer. A handshake that fails before the first slots is
-    final; later the client comes back by itself, and warns on standard error. One that `waits` does
-    so too once it was told that the room to watch is not there yet. `hears` is told of each change,
-    and of None if there can be no more."""
+    final; later the client comes back by itself, and warns on standard error. One that `reads` only
+    watches, and so begins no room. One that `waits` comes back too once it was told that the room
+    to watch is not there yet. `hears` is told of each change, and of None if there can be no
+    more."""
 
     def __init__(
         self,
@@ -40,6 +41,8 @@ class Room:
         view: View,
         timeout: float,
         hears: Callable[[Optional[Change]], None],
+        *,
+        reads: bool = True,
         waits: bool = False,
     ):
         self._timeout, self._warn, self._hears = timeout, warning(), hears
@@ -47,14 +50,13 @@ class Room:
         self._failed: "asyncio.Future[None]" = asyncio.get_running_loop().create_future()
         self._failed.add_done_callback(lambda failed: failed.cancelled() or failed.exception())
         # The board's own patience is the longer one, so that `NoAnswer` comes first.
-        patience, room = timeout + 10, without_watch(url)
         self.board = Board(
-            room,
+            without_watch(url),
             view=view,
-            read_only=room != url,
+            read_only=reads,
             on_change=hears,
             on_state=self._turned,
-            patience=patience,
+            patience=timeout + 10,
         )
 
     def _turned(self, state: State, cause: Optional[Exception]) -> None:
@@ -103,8 +105,8 @@ class Room:
 
 async def get(url: str, pointers: List[str], timeout: float) -> None:
     """Prints the value at each pointer. Refused, as `missing`, if one leads to nothing: then none
-    is printed, so that line k is always of pointer k. `NoRoom` if a room that is only watched is
-    not there."""
+    is printed, so that line k is always of pointer k. `NoRoom` if there is no room of this
+    name."""
     room = Room(url, [*pointers], timeout, lambda change: None)
     async with room.board:
         slots = await room.answer(room.board.ready)
@@ -117,7 +119,7 @@ async def get(url: str, pointers: List[str], timeout: float) -> None:
 
 async def watch(url: str, pointers: List[str], timeout: float) -> None:
     """Prints what the pointers show, and then each change, until nobody reads it any more. Waits
-    for a room that is only watched."""
+    for a room that is not there yet."""
     changes: "asyncio.Queue[Optional[Change]]" = asyncio.Queue()
     room = Room(url, [*pointers], timeout, changes.put_nowait, waits=True)
     _when_closed(room.unread)
@@ -130,7 +132,7 @@ async def watch(url: str, pointers: List[str], timeout: float) -> None:
 
 async def edit(url: str, patch: Patch, base: Optional[int], timeout: float) -> None:
     """Prints the revision that the patch made."""
-    room = Room(url, [], timeout, lambda change: None)
+    room = Room(url, [], timeout, lambda change: None, reads=False)
     async with room.board as board:
         done = board.edit(patch) if base is None else board.edit(patch, base=base)
         write({"rev": await room.answer(done)})

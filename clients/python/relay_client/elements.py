@@ -69,9 +69,12 @@ class Keyed:
         return self._changed(make, options)
 
     def insert(self, value: Json, before: Json, **options: Any) -> "asyncio.Future[int]":
-        """Puts in a new one, in front of the element with a key; at the end, if that is None."""
+        """Puts in a new one, in front of the element with a key; at the end, if that is None. Fails
+        with `Refused`, as `key`, if it has no key, or that of an element that is shown. Two clients
+        that put in one key at once both may; `guard="base"` prevents that."""
 
         def make(elements: DraftList) -> None:
+            self._check_new(value)
             to = self._to(before)
             if to is None:
                 elements.append(value)
@@ -94,6 +97,11 @@ class Keyed:
         if at < 0:
             raise Refused("missing", advice=f"no element has the key {json.dumps(key)}")
         return at
+
+    def _check_new(self, element: Json) -> None:
+        key = element.get(self._name) if isinstance(element, dict) else None
+        if key is None or self.index(key) >= 0:
+            raise Refused("key", advice=f"{json.dumps(key)} is no new key")
 
     def _to(self, before: Json) -> Optional[int]:
         return None if before is None else self._at(before)

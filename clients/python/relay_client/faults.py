@@ -6,15 +6,15 @@ from typing import Any, Dict, Literal, Optional
 from urllib.parse import urlsplit
 
 from .advice import ADVICE
-from .pointers import is_watching
+from .pointers import is_watching, shown_address
 
 
 class Refused(Exception):
     """The relay refused a request, and nothing changed by it. Or the board did, before it was sent:
     as `stale` an edit with a base of another run, as `too-long` a text of more than 1,056,768
     bytes, by which the connection would end, as `away` an edit that is not guarded while the
-    connection is lost, as `changed` an undo, as `read-only` each edit of a board that only
-    watches."""
+    connection is lost, as `changed` an undo, as `key` an element that has no key of its own, as
+    `read-only` each edit of a board that only watches."""
 
     def __init__(
         self, fault: str, at: Optional[int] = None, rev: Optional[int] = None, advice: str = ""
@@ -55,13 +55,15 @@ class Closed(Exception):
         super().__init__("the board is closed")
 
 
+_NO_ROOMS = "what answers there has no rooms, or is the --admin port"
+_NO_ROOM_YET = f"there is no room of this name yet, or {_NO_ROOMS}"
 _CAUSES = {
+    200: _NO_ROOMS,
+    401: "the name or the password is missing or wrong",
     403: "it lets no page of this origin in (--origin)",
     429: "too many requests or connections of this address",
     503: "it is full (--sessions, --rooms), --closed, or stopping",
 }
-_NO_ROOMS = "what answers there has no rooms"
-_NO_ROOM_YET = f"there is no room of this name yet, or {_NO_ROOMS} to watch"
 
 
 class HandshakeFailed(Exception):
@@ -88,16 +90,17 @@ class HandshakeFailed(Exception):
 
     def at(self, url: str) -> "HandshakeFailed":
         """The same, with the address."""
-        failed = HandshakeFailed(self.reason, self.status, self._detail, url)
+        detail = self._detail.replace(url, shown_address(url))
+        failed = HandshakeFailed(self.reason, self.status, detail, url)
         failed.__cause__ = self.__cause__
         return failed
 
 
 def _refusal(url: str, status: Optional[int]) -> str:
     if status is None:
-        return f"{url} refuses the connection"
+        return f"{shown_address(url)} refuses the connection"
     cause = _not_found(url) if status == 404 else _CAUSES.get(status, "")
-    return f"{url} refuses the connection, with {status}" + (cause and f": {cause}")
+    return f"{shown_address(url)} refuses the connection, with {status}" + (cause and f": {cause}")
 
 
 def _not_found(url: str) -> str:
@@ -106,10 +109,11 @@ def _not_found(url: str) -> str:
         return _NO_ROOM_YET
     parts = urlsplit(url)
     if not re.fullmatch(r"/rooms/[\w-]+(/watch)?", parts.path, re.ASCII):
-        return f"a room is at /rooms/NAME, and this path is {parts.path}"
+        return f"a room is at /rooms/NAME, and this path is {shown_address(parts.path)}"
     return "leave out the `?` and what follows" if parts.query else _NO_ROOMS
 
 
 def _silence(url: str) -> str:
     advice = "start the relay there, or check the address, the port and --per-peer"
-    return f"nothing answers at {url}: {advice}"
+    plain = ", or take ws://: the relay itself has no TLS" if url.startswith("wss") else ""
+    return f"nothing answers at {shown_address(url)}: {advice}{plain}"

@@ -3,7 +3,7 @@ from __future__ import annotations
 
 import re
 from typing import Optional, Tuple, Union
-from urllib.parse import urlsplit
+from urllib.parse import SplitResult, urlsplit
 
 from .values import Shown
 
@@ -12,6 +12,9 @@ Path = Tuple[str, ...]
 _INDEX = re.compile("0|[1-9][0-9]*")
 _ESCAPES = re.compile("(?:[^~]|~[01])*", re.DOTALL)
 _ROOM = re.compile("[A-Za-z0-9_-]{1,64}")
+# What stands before the host: a name and a password, or a token. A password that is not escaped may
+# have a slash, so it ends at the last `@`.
+_USER = re.compile(r"^([\w+.-]+:)?([/\\]*)([^:]*:)?.*@", re.DOTALL)
 _WATCHED = re.compile(r"/rooms/[A-Za-z0-9_-]{1,64}/watch\Z")
 
 
@@ -52,18 +55,31 @@ def shown_path(shown: Shown) -> Path:
     return tokens(shown if isinstance(shown, str) else shown["size"])
 
 
+def shown_address(url: str) -> str:
+    """The address as it may be shown, in a message or a log: with `***` in place of a password, or
+    of a name that has none."""
+    return _USER.sub(r"\1\2\3***@", url, count=1)
+
+
+def _has_host(parts: SplitResult) -> bool:
+    try:
+        return bool(parts.hostname) and parts.port != 0
+    except ValueError:  # a port that is no number
+        return False
+
+
 def check_room(url: str) -> None:
     """`ValueError` if the address is none of a room, as ws://127.0.0.1:8080/rooms/NAME. A path
     before it is a proxy's concern."""
-    parts = urlsplit(url)
-    if parts.scheme not in ("ws", "wss") or not parts.hostname:
-        raise ValueError(f"{url}: an address begins with ws://HOST or wss://HOST")
+    parts, shown = urlsplit(url), shown_address(url)
+    if parts.scheme not in ("ws", "wss") or not _has_host(parts):
+        raise ValueError(f"{shown}: an address begins with ws://HOST or wss://HOST")
     _, rooms, name = parts.path.rpartition("/rooms/")
     if without_watch(url) != url:
-        raise ValueError(f"{url}: leave out `/watch`, and connect with `read_only=True`")
+        raise ValueError(f"{shown}: leave out `/watch`, and connect with `read_only=True`")
     if not rooms or not _ROOM.fullmatch(name):
         raise ValueError(
-            f"{url}: an address ends with /rooms/NAME, and a name is 1 to 64 ASCII letters, "
+            f"{shown}: an address ends with /rooms/NAME, and a name is 1 to 64 ASCII letters, "
             "digits, `-` and `_`"
         )
 

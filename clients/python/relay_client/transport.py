@@ -2,6 +2,7 @@
 from __future__ import annotations
 
 import asyncio
+import sys
 from contextlib import asynccontextmanager
 from typing import Any, AsyncContextManager, AsyncIterator, Callable, Dict, Protocol, Union
 
@@ -11,7 +12,8 @@ try:
 except ImportError as missing:
     raise ImportError(
         "relay_client needs the package websockets: pip install ./clients/python in a virtual"
-        " environment, or Debian's python3-websockets"
+        f" environment, or Debian's python3-websockets (for /usr/bin/python3; this is"
+        f" {sys.executable})"
     ) from missing
 
 from .faults import HandshakeFailed

@@ -35,10 +35,7 @@ def as_json(value: object, path: str = "", depth: int = 0) -> Json:
     if isinstance(value, str):
         return _text(str(value), path)
     if isinstance(value, float):
-        raise ValueError(
-            f"{path or 'the value'}: {value!r} is no whole number; "
-            "send a scaled whole number, or a text"
-        )
+        raise ValueError(f"{path or 'the value'}: {value!r} {_instead(value)}")
     if depth >= DEEPEST:
         raise ValueError(f"{path or 'the value'}: nested too deep")
     if isinstance(value, Mapping):
@@ -49,6 +46,13 @@ def as_json(value: object, path: str = "", depth: int = 0) -> Json:
     if isinstance(value, Sequence) and not isinstance(value, (bytes, bytearray, memoryview)):
         return [as_json(part, f"{path}/{place}", depth + 1) for place, part in enumerate(value)]
     raise TypeError(f"{path or 'the value'}: {type(value).__name__} is no JSON")
+
+
+def _instead(value: float) -> str:
+    """The fault of a number with a point, and what to send."""
+    if value.is_integer() and abs(value) < 2**53:
+        return f"has a fraction: write {int(value)}"
+    return "is no whole number; send a scaled whole number, or a text"
 
 
 def _whole(value: int, path: str) -> int:

@@ -176,6 +176,10 @@ class Changes(unittest.IsolatedAsyncioTestCase):
                 relay_client.Refused, 'missing: no element has the key "y"'
             ):
                 gone()
+        # A key that an element has already, and none.
+        for element, said in [({"id": "m"}, '"m"'), ({"text": "tea"}, "null"), ("tea", "null")]:
+            with self.assertRaisesRegex(relay_client.Refused, f"key: {said} is no new key"):
+                cards.insert(element, None)
 
 
 if __name__ == "__main__":

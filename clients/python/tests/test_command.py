@@ -14,7 +14,9 @@ PATIENCE = 60
 SHOWN = {"": {"n": 1}, "/n": 1, "/name": "Zoë"}
 CHANGE = patch(8, {"op": "replace", "path": "/0", "value": [2]})
 INSERT = '[{"op":"add","path":"/cards/0","value":"tea"}]'
-NO_ROOM_YET = "there is no room of this name yet, or what answers there has no rooms to watch"
+NO_ROOM_YET = (
+    "there is no room of this name yet, or what answers there has no rooms, or is the --admin port"
+)
 
 
 class Relay:
@@ -132,19 +134,38 @@ class Get(unittest.IsolatedAsyncioTestCase):
             outcome = await run("get", url, *["/n"] * 17)
         self.assertEqual(outcome, (1, "", "relay-client: refused: too-many\n"))
 
-    async def test_a_room_is_entered_only_to_watch_it_by_its_address_for_that(self):
+    async def test_a_room_is_entered_only_to_watch_it(self):
         relay = Relay()
         async with relay.listening() as url:
             self.assertEqual(await run("get", f"{url}/watch", "/n"), (0, "1\n", ""))
             self.assertEqual(await run("get", url, "/n"), (0, "1\n", ""))
-        self.assertEqual(relay.targets, ["/rooms/play/watch", "/rooms/play"])
+        self.assertEqual(relay.targets, ["/rooms/play/watch"] * 2)
 
-    async def test_that_there_is_no_room_to_watch_is_said_at_once(self):
+    async def test_that_there_is_no_room_is_said_at_once(self):
         async with NoRooms().listening() as url:
-            status, printed, said = await run("get", f"{url}/watch", "/n", "--timeout", "50")
-        self.assertEqual((status, printed), (3, ""))
-        words = f"relay-client: {url}/watch refuses the connection, with 404: {NO_ROOM_YET}"
-        self.assertTrue(said.startswith(words), said)
+            for address in (url, f"{url}/watch"):
+                status, printed, said = await run("get", address, "/n", "--timeout", "50")
+                self.assertEqual((status, printed), (3, ""))
+                words = f"relay-client: {url}/watch refuses the connection, with 404: {NO_ROOM_YET}"
+                self.assertTrue(said.startswith(words), said)
+
+    @unittest.skipUnless(os.environ.get("RELAY"), "RELAY names no program")
+    async def test_a_name_that_is_mistyped_begins_no_room(self):
+        async with served() as port:
+            url = f"ws://127.0.0.1:{port}/rooms/play"
+            program = await begin("watch", url)
+            self.assertIn(NO_ROOM_YET, (await program.stderr.readline()).decode())
+            for _ in range(2):
+                status, printed, said = await run("get", url)
+                self.assertEqual((status, printed), (3, ""))
+                self.assertIn(NO_ROOM_YET, said)
+            edit = await run("edit", url, '[{"op":"add","path":"","value":{"n":1}}]')
+            self.assertEqual(edit, (0, '{"rev":1}\n', ""))
+            self.assertEqual(await run("get", url, "/n"), (0, "1\n", ""))
+            line = await asyncio.wait_for(program.stdout.readline(), PATIENCE)
+            self.assertEqual(line, b'{"rev":1,"slots":[[{"n":1}]]}\n')
+            program.send_signal(signal.SIGINT)
+            self.assertEqual((await ended(program))[0], 0)
 
 
 class Edit(unittest.IsolatedAsyncioTestCase):
@@ -213,10 +234,10 @@ class Watch(unittest.IsolatedAsyncioTestCase):
             program.send_signal(signal.SIGINT)
             self.assertEqual((await ended(program))[0], 0)
 
-    async def test_it_waits_for_a_room_that_is_only_watched(self):
+    async def test_it_waits_for_a_room_that_is_not_there_yet(self):
         none, relay = NoRooms(), Relay()
         async with none.listening() as url:
-            program = await begin("watch", f"{url}/watch", "/n", "--timeout", "0.1")
+            program = await begin("watch", url, "/n", "--timeout", "0.1")
             await asyncio.wait_for(none.until_asked(3), PATIENCE)
         port = int(url.rpartition("/rooms/")[0].rpartition(":")[2])
         async with relay.listening(port):
@@ -253,6 +274,8 @@ class Words(unittest.IsolatedAsyncioTestCase):
             (["watch", url, "--timeout", "0"], "0 is no time"),
             (["edit", url, "[{"], "no JSON"),
             (["edit", url, '[{"value":1.5}]'], "/0/value: 1.5 is no whole number"),
+            (["edit", url, '[{"value":1.0}]'], "/0/value: 1.0 has a fraction: write 1"),
+            (["edit", url, '[{"value":1e300}]'], "/0/value: 1e+300 is no whole number"),
             (["edit", url, '{"op":"add"}'], "a patch is a list of operations"),
             (["edit", url, "[1]"], "operation 0 (the first is 0) is no object with"),
             (["edit", url, '[{"op":["add"]}]'], "operation 0 (the first is 0) is no object"),
@@ -267,13 +290,11 @@ class Words(unittest.IsolatedAsyncioTestCase):
             self.assertEqual((status, printed), (2, ""), words)
             self.assertIn(said, told)
 
-    async def test_a_404_is_of_an_address_of_no_room_but_for_one_to_watch(self):
+    async def test_a_404_is_of_an_address_of_no_room_but_for_what_only_reads(self):
         async with NoRooms().listening() as url:
             for words in [
-                ["get", url],
-                ["watch", url],
                 ["edit", url, INSERT],
-                ["get", f"{url}/watch?x=1"],
+                ["get", f"{url}?x=1"],
                 ["watch", f"{url}/watch?x=1"],
             ]:
                 status, printed, told = await run(*words)
@@ -283,11 +304,14 @@ class Words(unittest.IsolatedAsyncioTestCase):
     @unittest.skipUnless(os.environ.get("RELAY"), "RELAY names no program")
     async def test_an_address_of_no_room_is_a_matter_of_usage(self):
         async with served() as port:
-            for path, said in [
-                ("/rooms/play?x=1", "with 404: leave out the `?` and what follows"),
-                ("/b/rooms/play", "with 404: a room is at /rooms/NAME, and this path is /b/"),
+            every = [["get"], ["watch"], ["edit", INSERT]]
+            before = "with 404: a room is at /rooms/NAME, and this path is /b/"
+            for path, said, those in [
+                ("/rooms/play?x=1", "with 404: leave out the `?` and what follows", every),
+                # What only reads takes a path before it for a proxy's, and the room for none yet.
+                ("/b/rooms/play", before, every[2:]),
             ]:
-                for words in [["get"], ["watch"], ["edit", INSERT]]:
+                for words in those:
                     url = f"ws://127.0.0.1:{port}{path}"
                     status, printed, told = await run(words[0], url, *words[1:])
                     self.assertEqual((status, printed), (2, ""), words)
@@ -299,6 +323,19 @@ class Words(unittest.IsolatedAsyncioTestCase):
             status, printed, said = await run(words[0], url, *words[1:])
             self.assertEqual((status, printed), (3, ""))
             self.assertIn(f"relay-client: nothing answers at {url}", said)
+
+    async def test_no_message_has_the_password_of_an_address(self):
+        for words in [["get"], ["watch"], ["edit", INSERT]]:
+            for address, shown, status in [
+                ("ws://anna:secret@127.0.0.1:1/rooms/a", "ws://anna:***@127.0.0.1:1/rooms/a", 3),
+                ("ws://anna:secret@h/a", "ws://anna:***@h/a", 2),
+            ]:
+                ended, printed, said = await run(words[0], address, *words[1:])
+                self.assertEqual((ended, printed), (status, ""))
+                self.assertIn(shown, said)
+                self.assertNotIn("secret", said)
+        ended, printed, said = await run("edit", "ws://anna:secret@h/rooms/a/watch", INSERT)
+        self.assertIn("ws://anna:***@h/rooms/a/watch: leave out `/watch`", said)
 
     async def test_a_relay_that_says_nothing_is_waited_for_as_long_as_the_timeout(self):
         async def silent(socket):

@@ -103,7 +103,7 @@ class NotThereYet(unittest.IsolatedAsyncioTestCase):
         self.assertEqual(
             str(cause),
             f"{URL}/watch refuses the connection, with 404: there is no room of this name yet, or "
-            "what answers there has no rooms to watch",
+            "what answers there has no rooms, or is the --admin port",
         )
 
     async def test_so_it_is_behind_a_path_of_a_proxy(self):
@@ -123,7 +123,7 @@ class NotThereYet(unittest.IsolatedAsyncioTestCase):
 
     async def test_any_other_404_is_of_a_wrong_address_and_ends_a_board(self):
         for url, options, words in [
-            (URL, {}, "what answers there has no rooms"),
+            (URL, {}, "what answers there has no rooms, or is the --admin port"),
             ("ws://h/b/rooms/a", {}, "a room is at /rooms/NAME, and this path is /b/rooms/a"),
             ("ws://h/rooms/a?b=c", {"read_only": True}, "leave out the `?` and what follows"),
             # A room named `watch`, behind a path. Its address tells no more than that.

@@ -1,5 +1,5 @@
 """Pointers of keys, barriers, parents, edits whose fate is not known, and what errors say to do."""
-import asyncio, logging, unittest
+import asyncio, inspect, logging, unittest
 from fake import (
     URL,
     FakeRelay,
@@ -117,21 +117,27 @@ class Words(unittest.IsolatedAsyncioTestCase):
         self.assertEqual(
             [line.getMessage() for line in logged.records], [f"{says}; it is tried again"]
         )
+        secure = str(relay_client.HandshakeFailed("unreachable", url="wss://h/rooms/a"))
+        plain = "or take ws://: the relay itself has no TLS"
+        self.assertEqual(secure, f"nothing answers at wss://h/rooms/a: {advice}, {plain}")
         refuses = "refuses the connection, with 404:"
         for url, words in [
             ("ws://h/b/rooms/a", "a room is at /rooms/NAME, and this path is /b/rooms/a"),
             ("ws://h/rooms/a?b=c", "leave out the `?` and what follows"),
-            ("ws://h/rooms/a", "what answers there has no rooms"),
-            ("ws://h/rooms/watch", "what answers there has no rooms"),
+            ("ws://h/rooms/a", "what answers there has no rooms, or is the --admin port"),
+            ("ws://h/rooms/watch", "what answers there has no rooms, or is the --admin port"),
             (
                 "ws://h/rooms/a/watch",
-                "there is no room of this name yet, or what answers there has no rooms to watch",
+                "there is no room of this name yet, or "
+                "what answers there has no rooms, or is the --admin port",
             ),
             ("ws://h/rooms/a/watch?b=c", "leave out the `?` and what follows"),
         ]:
             failed = relay_client.HandshakeFailed("refused", 404, url=url)
             self.assertEqual(str(failed), f"{url} {refuses} {words}")
         for status, words in [
+            (200, ": what answers there has no rooms, or is the --admin port"),
+            (401, ": the name or the password is missing or wrong"),
             (403, ": it lets no page of this origin in (--origin)"),
             (429, ": too many requests or connections of this address"),
             (502, ""),
@@ -145,3 +151,41 @@ class Words(unittest.IsolatedAsyncioTestCase):
 
 if __name__ == "__main__":
     unittest.main()
+
+    async def test_no_message_has_the_password_of_an_address(self):
+        for url, shown in [
+            ("ws://anna:secret@127.0.0.1:1/rooms/a", "ws://anna:***@127.0.0.1:1/rooms/a"),
+            ("wss://anna:s:cr@secret@h/rooms/a", "wss://anna:***@h/rooms/a"),
+            # A slash has to be escaped. Where it is not, the message is of an address all the same.
+            ("ws://anna:1/secret@h/rooms/a", "ws://anna:***@h/rooms/a"),
+            ("ws://secret@h:8080/rooms/a", "ws://***@h:8080/rooms/a"),
+            ("ws://h:8080/rooms/a", "ws://h:8080/rooms/a"),
+        ]:
+            silent = relay_client.HandshakeFailed("unreachable", detail=f"{url} is wrong")
+            relay = FakeRelay(silent, relay_client.HandshakeFailed("refused", 404))
+            options = {"view": [""], "open_link": relay.open_link, "first_wait": 0}
+            with self.assertLogs("relay_client", logging.WARNING) as logged:
+                board = relay_client.connect(url, **options)
+                with self.assertRaises(relay_client.HandshakeFailed) as failed:
+                    await board.ready
+            self.assertEqual(len(logged.output), 2)
+            told = [line.getMessage() for line in logged.records] + [str(failed.exception)]
+            self.assertTrue(told[0].startswith(f"nothing answers at {shown}: start "), told)
+            self.assertIn(f"({shown} is wrong)", told[0])
+            self.assertTrue(told[1].startswith(f"{shown} refuses the connection, with 404"), told)
+            self.assertNotIn("secret", "".join(told))
+        for url in [
+            "ws://anna:secret/1@h/rooms/a",
+            "ws://anna:secret@h/a",
+            "ws://anna:secret@h/rooms/a/watch",
+            "anna:secret@h/rooms/a",
+        ]:
+            with self.assertRaises(ValueError) as wrong:
+                relay_client.connect(url, view=[""])
+            self.assertNotIn("secret", str(wrong.exception))
+            self.assertIn("***@h/", str(wrong.exception))
+
+    def test_connect_names_each_option(self):
+        options = inspect.signature(relay_client.Board).parameters
+        for name in options.keys() - {"url", "view"}:
+            self.assertIn(f"`{name}`", relay_client.connect.__doc__)

@@ -84,15 +84,16 @@ public final class Board implements AutoCloseable {
      * @throws IllegalArgumentException if the address is none of a room, or a pointer is none
      */
     public static Board connect(String address, Options options, List<Shown> view) {
+        String shown = Address.shown(address);
         if (!ROOM.matcher(address).matches()) {
             if (address.matches("wss?://.+/rooms/[A-Za-z0-9_-]+/watch")) {
                 String advice = ": leave out `/watch`, and use Options.readOnly(true)";
-                throw new IllegalArgumentException(address + advice);
+                throw new IllegalArgumentException(shown + advice);
             }
-            throw new IllegalArgumentException(address + " is not ws://HOST/rooms/NAME");
+            throw new IllegalArgumentException(shown + " is not ws://HOST/rooms/NAME");
         }
         String target = options.isReadOnly ? address + "/watch" : address;
-        return new Board(URI.create(target), List.copyOf(view), options);
+        return new Board(Address.of(target), List.copyOf(view), options);
     }
 
     /** The same for a view that shows values alone. */

@@ -11,7 +11,8 @@ import java.util.concurrent.CompletionStage;
 
 /**
  * The JDK's own WebSocket. It overlooks that a peer resets the connection unless its executor runs
- * its tasks at once and messages are asked for on its own thread: so both are so here.
+ * its tasks at once and messages are asked for on its own thread: so both are so here. And it does
+ * not send the name and the password of an address.
  */
 public final class JdkConnector implements Connector {
     /** One for all boards, and one thread: none of them is ever ended. */
@@ -28,14 +29,12 @@ public final class JdkConnector implements Connector {
 
     @Override
     public void open(URI address, Receiver receiver) {
-        Shared.CLIENT
-                .newWebSocketBuilder()
-                .connectTimeout(patience)
-                .buildAsync(address, new Line(receiver))
-                .exceptionally(failure -> {
-                    receiver.lost(cause(failure));
-                    return null;
-                });
+        WebSocket.Builder builder = Shared.CLIENT.newWebSocketBuilder().connectTimeout(patience);
+        Address.authorization(address).ifPresent(user -> builder.header("Authorization", user));
+        builder.buildAsync(address, new Line(receiver)).exceptionally(failure -> {
+            receiver.lost(cause(failure));
+            return null;
+        });
     }
 
     private static RelayException.HandshakeFailed cause(Throwable failure) {

@@ -82,12 +82,17 @@ public abstract class RelayException extends RuntimeException {
         private static final String UNREACHABLE = "the relay cannot be reached";
         private static final String CHECK =
                 "start the relay there, or check the address, the port and --per-peer";
+        private static final String PLAIN = ", or take ws://: the relay itself has no TLS";
+        private static final String NO_ROOMS =
+                "what answers there has no rooms, or is the --admin port";
+        private static final String NO_ROOM_YET =
+                "there is no room of this name yet, or " + NO_ROOMS;
         private static final Map<Integer, String> CAUSES = Map.of(
+                200, NO_ROOMS,
+                401, "the name or the password is missing or wrong",
                 403, "it lets no page of this origin in (--origin)",
                 429, "too many requests or connections of this address",
                 503, "it is full (--sessions, --rooms), --closed, or stopping");
-        private static final String NO_ROOM_YET =
-                "there is no room of this name yet, or what answers there has no rooms to watch";
         /** The status of the answer, as 503 of a relay without a place; null if none came. */
         public final Integer status;
 
@@ -107,10 +112,15 @@ public abstract class RelayException extends RuntimeException {
         }
 
         private String words(URI address) {
-            if (status == null) return "nothing answers at " + address + ": " + CHECK;
-            String words = address + " refuses the connection, with " + status;
+            if (status == null) return silence(address);
+            String words = Address.shown(address) + " refuses the connection, with " + status;
             if (status == 404) return words + ": " + notFound(address);
             return CAUSES.containsKey(status) ? words + ": " + CAUSES.get(status) : words;
+        }
+
+        private static String silence(URI address) {
+            String advice = "wss".equals(address.getScheme()) ? CHECK + PLAIN : CHECK;
+            return "nothing answers at " + Address.shown(address) + ": " + advice;
         }
 
         /** Tells what is wrong with an address, as far as it shows. */
@@ -118,8 +128,8 @@ public abstract class RelayException extends RuntimeException {
             String path = String.valueOf(address.getPath());
             if (path.matches(".*/rooms/[A-Za-z0-9_-]+/watch")) return NO_ROOM_YET;
             return path.matches("/rooms/[A-Za-z0-9_-]+")
-                    ? "what answers there has no rooms"
-                    : "a room is at /rooms/NAME, and this path is " + path;
+                    ? NO_ROOMS
+                    : "a room is at /rooms/NAME, and this path is " + Address.shown(path);
         }
     }
 }

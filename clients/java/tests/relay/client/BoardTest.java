@@ -1,12 +1,17 @@
 package relay.client;
 
+import static java.nio.charset.StandardCharsets.UTF_8;
 import static relay.client.Tests.equal;
 import static relay.client.Tests.fails;
 import static relay.client.ValuesTest.json;
 
 import com.fasterxml.jackson.databind.JsonNode;
+import com.sun.net.httpserver.HttpServer;
+import java.io.IOException;
+import java.net.InetSocketAddress;
 import java.time.Duration;
 import java.util.ArrayList;
+import java.util.Base64;
 import java.util.Collections;
 import java.util.List;
 import java.util.Map;
@@ -58,7 +63,7 @@ final class BoardTest {
         String refuses = " refuses the connection, with 404: ";
         String path = "a room is at /rooms/NAME, and this path is /b/rooms/a";
         equal("ws://h/b/rooms/a" + refuses + path, whyItEnds("ws://h/b/rooms/a"));
-        String noRooms = "what answers there has no rooms";
+        String noRooms = "what answers there has no rooms, or is the --admin port";
         equal("ws://h/rooms/a" + refuses + noRooms, whyItEnds("ws://h/rooms/a"));
         Played relay = new Played();
         Runnable toWatch = () -> Board.connect("ws://h/rooms/a/watch", relay.options(), "");
@@ -84,6 +89,9 @@ final class BoardTest {
 
     static void eachStatusThatIsTriedAgainSaysItsOwnThing() {
         String refuses = "ws://h/rooms/a refuses the connection, with ";
+        String noRooms = ": what answers there has no rooms, or is the --admin port";
+        equal(refuses + 200 + noRooms, whyItWaits(200));
+        equal(refuses + 401 + ": the name or the password is missing or wrong", whyItWaits(401));
         String foreign = ": it lets no page of this origin in (--origin)";
         equal(refuses + 403 + foreign, whyItWaits(403));
         String often = ": too many requests or connections of this address";
@@ -94,15 +102,82 @@ final class BoardTest {
         String silent = "nothing answers at ws://h/rooms/a: start the relay there, or check the "
                 + "address, the port and --per-peer";
         equal(silent, whyItWaits(null));
+        String plain = ", or take ws://: the relay itself has no TLS";
+        equal(silent.replace("ws:", "wss:") + plain, whyItWaits(null, "wss://h/rooms/a"));
+    }
+
+    static void noMessageHasThePasswordOfAnAddress() {
+        Map<String, String> shown = Map.of(
+                "ws://anna:secret@127.0.0.1:1/rooms/a", "ws://anna:***@127.0.0.1:1/rooms/a",
+                "wss://anna:s:cr%40secret@h/rooms/a", "wss://anna:***@h/rooms/a",
+                "ws://secret@h:8080/rooms/a", "ws://***@h:8080/rooms/a",
+                "ws://h:8080/rooms/a", "ws://h:8080/rooms/a");
+        shown.forEach((address, words) -> {
+            String refuses = words + " refuses the connection, with ";
+            equal(true, whyItWaits(503, address).startsWith(refuses + "503: "));
+            equal(true, whyItEnds(address).startsWith(refuses + "404: "));
+            equal(true, whyItWaits(null, address).startsWith("nothing answers at " + words + ": "));
+        });
+        Options options = new Played().options();
+        for (String wrong : List.of(
+                "ws://anna:secret@h/a",
+                "ws://anna:secret@h/rooms/a/watch",
+                "ws://anna:secret/1@h/rooms/a",
+                "ws://anna:secret 1@h/rooms/a",
+                "anna:secret@h/rooms/a")) {
+            try {
+                Board.connect(wrong, options, "");
+            } catch (IllegalArgumentException failure) {
+                equal(false, (failure + " " + failure.getCause()).contains("secret"));
+                continue;
+            }
+            throw new AssertionError(wrong);
+        }
+    }
+
+    static void aNameAndAPasswordAreSent() throws IOException {
+        HttpServer proxy = HttpServer.create(new InetSocketAddress("127.0.0.1", 0), 0);
+        byte[] user = "anna:sec/ret".getBytes(UTF_8);
+        String basic = "Basic " + Base64.getEncoder().encodeToString(user);
+        proxy.createContext("/", asked -> {
+            boolean isNamed = basic.equals(asked.getRequestHeaders().getFirst("Authorization"));
+            asked.sendResponseHeaders(isNamed ? 418 : 401, -1);
+        });
+        proxy.start();
+        try {
+            String host = "127.0.0.1:" + proxy.getAddress().getPort();
+            equal(418, statusOf("ws://anna:sec%2Fret@" + host + "/rooms/a"));
+            equal(401, statusOf("ws://anna:other@" + host + "/rooms/a"));
+            equal(401, statusOf("ws://" + host + "/rooms/a"));
+        } finally {
+            proxy.stop(0);
+        }
+    }
+
+    private static Integer statusOf(String address) {
+        CompletableFuture<RelayException.HandshakeFailed> first = new CompletableFuture<>();
+        Options options = new Options().onState((state, cause) -> {
+            if (cause instanceof RelayException.HandshakeFailed failed) first.complete(failed);
+        });
+        Board board = Board.connect(address, options, "");
+        try {
+            return first.join().status;
+        } finally {
+            board.close();
+        }
     }
 
     private static String whyItWaits(Integer status) {
+        return whyItWaits(status, "ws://h/rooms/a");
+    }
+
+    private static String whyItWaits(Integer status, String address) {
         Played relay = new Played();
         List<String> causes = new ArrayList<>();
         Options options = relay.options().onState((state, cause) -> {
             if (cause != null) causes.add(cause.getMessage());
         });
-        Board board = Board.connect("ws://h/rooms/a", options, "");
+        Board board = Board.connect(address, options, "");
         relay.refuse(status);
         board.close();
         return causes.get(0);
@@ -110,7 +185,7 @@ final class BoardTest {
 
     static void whoOnlyWatchesWaitsUntilTheRoomIsThere() {
         String yet = " refuses the connection, with 404: there is no room of this name yet, "
-                + "or what answers there has no rooms to watch";
+                + "or what answers there has no rooms, or is the --admin port";
         for (String address : List.of("ws://h/rooms/a", "ws://h/b/rooms/a")) {
             Played relay = new Played();
             List<State> states = new ArrayList<>();
