@@ -8,7 +8,12 @@
 const { createInterface } = require("node:readline");
 const { connect } = require("../clients/javascript/relay.js");
 
-const [port, room = "board"] = process.argv.slice(2);
+const [port, room = "board", ...more] = process.argv.slice(2);
+const isUsed = /^\d+$/.test(port) && port < 65536 && /^[\w-]{1,64}$/.test(room) && !more.length;
+if (!isUsed || typeof WebSocket === "undefined") {
+  console.error("usage: node --experimental-websocket examples/board.js PORT [ROOM]");
+  process.exit(2);
+}
 let socket = null;
 
 class Droppable extends WebSocket {

@@ -6,7 +6,7 @@ is typed. A line `undo` takes the last one back.
 
 It needs the package websockets (Debian: python3-websockets).
 """
-import asyncio, os, sys
+import asyncio, os, re, signal, sys
 
 sys.path.insert(0, f"{os.path.dirname(os.path.abspath(__file__))}/../clients/python")
 import relay_client
@@ -55,6 +55,8 @@ async def main(port, room="board"):
 
 
 if __name__ == "__main__":
-    if not 2 <= len(sys.argv) <= 3 or sys.argv[1].startswith("-"):
+    if not re.fullmatch(r"\d{1,5}( [A-Za-z0-9_-]{1,64})?", " ".join(sys.argv[1:]), re.ASCII):
         sys.exit(__doc__)
+    # As an exception Ctrl-C would wait for the thread that waits for a line.
+    signal.signal(signal.SIGINT, signal.SIG_DFL)
     asyncio.run(main(*sys.argv[1:]))

@@ -1,7 +1,7 @@
 // The cards of board.html on the page. A card keeps its element while it is shown, wherever it
 // goes, so that it flies from where it was to where it is, and keeps the focus. Once it is gone,
 // the card in its place has the focus. It is known by its value, mostly a text, and among equal
-// ones by which of them it is.
+// ones by which of them it is. The element in which somebody writes stays when its card is gone.
 "use strict";
 
 const FLIGHT = { duration: 160, easing: "cubic-bezier(.2, .7, .3, 1)" };
@@ -43,8 +43,13 @@ class Cards {
       .at(-1);
   }
 
-  /** Shows lists of values. */
-  show(lists) {
+  /** Tells whether the card of an element is in the lists that are shown. */
+  has(element) {
+    return this.#values.has(element);
+  }
+
+  /** Shows lists of values. The element that is `held` stays where it is if its card is gone. */
+  show(lists, held = null) {
     const before = new Map(
       [...this.#shown.values()].map((element) => [element, element.getBoundingClientRect()]),
     );
@@ -54,11 +59,33 @@ class Cards {
     const wanted = lists.map((list) => list.map((value) => this.#element(value, counts, kept)));
     const focused = document.activeElement;
     const place = this.#values.has(focused) && this.seen(focused);
-    for (const gone of before.keys()) if (!wanted.flat().includes(gone)) gone.remove();
-    this.#lists.forEach((list, k) => this.#fill(k, list, wanted[k]));
+    const isWanted = new Set(wanted.flat());
+    const caret = [focused.selectionStart, focused.selectionEnd];
+    for (const gone of before.keys()) {
+      if (gone === held && !isWanted.has(gone)) this.#keep(held);
+      else if (!isWanted.has(gone)) gone.remove();
+    }
+    this.#lists.forEach((list, k) => this.#fill(k, list, wanted[k], focused.closest("li")));
     const next = place && !focused.isConnected ? this.#instead(place) : focused;
-    if (next !== document.activeElement && next.isConnected) next.focus();
+    if (next !== document.activeElement && next.isConnected) {
+      next.focus();
+      if (next === focused) next.setSelectionRange?.(...caret);
+    }
     for (const [element, box] of before) fly(element, box);
+  }
+
+  /** Takes away an element whose card is gone. What is beside it has the focus then. */
+  drop(element) {
+    const isFocused = element.contains(document.activeElement);
+    const { parentElement, nextElementSibling, previousElementSibling } = element;
+    const next = nextElementSibling ?? previousElementSibling;
+    element.remove();
+    if (isFocused) (next ?? parentElement.parentElement.querySelector("input")).focus();
+  }
+
+  #keep(held) {
+    this.#values.delete(held);
+    held.classList.add("gone");
   }
 
   #element(value, counts, kept) {
@@ -77,9 +104,12 @@ class Cards {
     return this.near(list, place) ?? this.#lists[list].parentElement.querySelector("input");
   }
 
-  // Only what is not in its place is moved, since an element that is moved loses the focus.
-  #fill(k, list, elements) {
+  // An element that is moved loses the focus. So only what is not in its place is moved, and
+  // within a list those before the one that has the focus, not that one.
+  #fill(k, list, elements, focused) {
     elements.forEach((element, place) => {
+      const isStill = element === focused && element.parentElement === list;
+      while (isStill && this.of(k)[place] !== element) list.append(this.of(k)[place]);
       const there = this.of(k)[place];
       if (there !== element) list.insertBefore(element, there ?? null);
     });

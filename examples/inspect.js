@@ -10,7 +10,7 @@ const tree = new Tree(at("tree"));
 const seen = []; // revisions with their documents, oldest first
 let isLive = true;
 
-at("room").textContent = url;
+at("room").textContent = withoutUser(url);
 
 const board = relay.connect(url, {
   view: [""],
@@ -58,11 +58,15 @@ function goLive(live) {
 at("revisions").oninput = ({ target }) => goLive(target.value === target.max);
 at("live").onclick = () => goLive(!isLive);
 
-// What is said and heard.
+// What is said and heard. A client that heard nothing for a while sends a request without a `do`:
+// that the relay refuses it shows that it is there.
+
+let asked = null; // the number of the last such request
 
 function logged({ way, message }) {
+  if (way === "sent" && message.do === undefined) asked = message.id;
   const line = document.createElement("li");
-  line.className = `${way} ${message.kind ?? ""}`;
+  line.className = `${way} ${isAsking(message) ? "asking" : (message.kind ?? "")}`;
   const details = document.createElement("details");
   details.append(part("summary", "", summary(message)));
   details.append(part("pre", "", JSON.stringify(message, null, 2)));
@@ -71,9 +75,15 @@ function logged({ way, message }) {
   while (at("log").children.length > LINES) at("log").lastChild.remove();
 }
 
+/** True of a request that only asks whether the relay is there, and of its answer. */
+function isAsking({ id, kind }) {
+  return id !== undefined && id === asked && (kind === undefined || kind === "refused");
+}
+
 function summary(message) {
-  const { do: asked, kind, id, rev, patch, fault, how, epoch } = message;
+  const { kind, id, rev, patch, fault, how, epoch } = message;
   const number = id === undefined || id === null ? "" : ` ${id}`;
+  if (isAsking(message)) return `${kind ? "still there" : "are you there?"}${number}`;
   if (kind === "refused") {
     const place = message.at === null ? "" : ` at ${message.at}`;
     return `refused${number}: ${fault}${place} (${FAULTS[fault] ?? "see docs/PROTOCOL.md"})`;
@@ -81,7 +91,7 @@ function summary(message) {
   const plural = patch?.length === 1 ? "" : "s";
   const operations = patch === undefined ? "" : `, ${patch.length} operation${plural}`;
   const base = message.base === undefined ? "" : ` at revision ${message.base} only`;
-  const what = kind ?? asked ?? "are you there?";
+  const what = kind ?? message.do;
   const revision = rev === undefined ? "" : `, revision ${rev}`;
   const words = [how && `: ${how}`, revision, epoch && `, epoch ${epoch}`];
   return what + number + operations + base + words.filter(Boolean).join("");

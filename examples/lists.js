@@ -22,7 +22,10 @@ const at = (selector) => document.querySelector(selector);
 const lists = LISTS.map(column);
 const cards = new Cards(lists, card);
 let written = null; // the element of the card in which somebody types
-let endWriting = () => {}; // and what ends that
+let lookAgain = () => {}; // what is done when the cards around it were drawn
+let endWriting = () => {}; // what ends it
+let isDrawing = false;
+const typed = new WeakSet(); // the inputs in which somebody typed what was not sent yet
 const putAways = []; // the cards that Undo brings back, the last one first
 let steps = Promise.resolve(); // the last Undo or Redo
 
@@ -41,11 +44,9 @@ addEventListener("pagehide", () => here.leave());
 
 function draw({ slots, rev }) {
   findPutAways();
-  const all = LISTS.map((_, k) => list(slots[k][0]));
-  // A board in which somebody types is drawn when that is done.
-  if (written === null) cards.show(all);
-  all.forEach(({ length }, k) => {
-    lists[k].parentElement.querySelector(".count").textContent = length;
+  showCards(slots);
+  slots.slice(0, LISTS.length).forEach(([value], k) => {
+    lists[k].parentElement.querySelector(".count").textContent = list(value).length;
   });
   at("#away").textContent = `${slots[LISTS.length][0] ?? 0} put away`;
   at("#people").replaceChildren(...Object.entries(here.people).map(person));
@@ -53,8 +54,17 @@ function draw({ slots, rev }) {
   tell(board.state);
 }
 
+/** Draws all cards. The one in which somebody types keeps its input, and what is typed. */
+function showCards(slots) {
+  isDrawing = true;
+  cards.show(LISTS.map((_, k) => list(slots[k][0])), written);
+  isDrawing = false;
+  lookAgain();
+}
+
 function tell(state, cause = null) {
   setText(at("#state"), connection(state, cause, board?.pending ? "saving" : "connected"));
+  at("#state").title = at("#state").textContent; // its line may be too short for it
   at("#state").dataset.state = state;
   at("#undo").disabled = !board?.undoable && putAways.length === 0;
   at("#redo").disabled = !board?.redoable;
@@ -146,6 +156,7 @@ function column({ name, path }) {
   section.querySelector(".name").textContent = name;
   input.setAttribute("aria-label", `Add a card to ${name}`);
   input.oninput = () => {
+    typed.add(input);
     draft.text = input.value;
     unsaved.keep(draft);
   };
@@ -155,6 +166,7 @@ function column({ name, path }) {
     if (value !== "") addText(unsaved.keep({ place: "added", path, text: value }));
     unsaved.drop(draft);
     draft = { place: path, text: "" };
+    typed.delete(input);
     input.value = "";
   };
   at("main").append(section);
@@ -177,14 +189,17 @@ function card(value) {
   return element;
 }
 
-// A card's text becomes an input until Enter, Escape, a click elsewhere or the end of the page.
+// A card's text becomes an input until Enter, Escape, a click elsewhere or the end of the page. If
+// nothing was typed, it also ends when the window loses the focus or the card is gone.
 function write(element) {
   const draft = draftOf(cards.seen(element));
+  const isTyped = () => draft.text !== text(draft.card.value);
   const input = document.createElement("input");
   const shown = element.querySelector(".text");
   Object.assign(input, { value: draft.text, maxLength: 200 });
   input.setAttribute("aria-label", "the card's text");
   input.oninput = () => {
+    typed.add(input);
     draft.text = input.value.trim();
     unsaved.keep(draft);
   };
@@ -193,16 +208,27 @@ function write(element) {
     if (key === "Enter" || key === "Escape") endWriting(element);
   });
   input.onblur = () => {
-    // Another window came to the front, and somebody still types here.
+    if (isDrawing) return; // somebody else moved the card
     if (document.activeElement !== input) endWriting();
+    // Another window came to the front, and somebody still types here.
+    else if (!document.hasFocus() && !isTyped()) endWriting(element);
+  };
+  lookAgain = () => {
+    if (cards.has(element)) {
+      Object.assign(draft, draftOf(cards.seen(element)), { text: draft.text });
+    } else if (!isTyped()) {
+      endWriting(element);
+      say(CHANGED);
+    }
   };
   endWriting = (next = null) => {
     written = null;
-    endWriting = () => {};
+    lookAgain = endWriting = () => {};
     input.replaceWith(shown);
     next?.focus();
+    if (!cards.has(element)) cards.drop(element);
     saveText(draft);
-    cards.show(LISTS.map((_, k) => list(board.slots[k][0])));
+    showCards(board.slots);
   };
   written = element;
   shown.replaceWith(input);
@@ -232,16 +258,16 @@ function choose(list, place) {
   cards.near(list, place)?.focus();
 }
 
+/** True of an input with a text, or in which somebody typed: the browser undoes that. */
+function isWritten(element) {
+  return element.tagName === "INPUT" && (element.value !== "" || typed.has(element));
+}
+
 at("#undo").onclick = () => step("undo");
 at("#redo").onclick = () => step("redo");
 addEventListener("keydown", (event) => {
-  if (
-    event.key.toLowerCase() !== "z" ||
-    !(event.ctrlKey || event.metaKey) ||
-    event.target.tagName === "INPUT"
-  ) {
-    return;
-  }
+  const isUndo = event.key.toLowerCase() === "z" && (event.ctrlKey || event.metaKey);
+  if (!isUndo || isWritten(event.target)) return;
   event.preventDefault();
   step(event.shiftKey ? "redo" : "undo");
 });

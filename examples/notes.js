@@ -4,9 +4,14 @@
 "use strict";
 
 const writings = new Map(); // by the ids of their notes
+const GONE = "That note is gone.";
 
 /** The cause of a save when somebody has deleted the note. */
-class Gone extends Error {}
+class Gone extends Meanwhile {}
+
+function hasNote(id) {
+  return Object.hasOwn(object(board.slots?.[0][0]), id);
+}
 
 function textOfNote(id) {
   return text(object(object(board.slots?.[0][0])[id]).text);
@@ -20,10 +25,15 @@ function writingOf(id) {
 function noteField(id) {
   const about = `note ${id}`;
   const writing = () => writings.get(id);
+  const drop = () => writing().drop();
   const anew = () => {
     const written = writing().text;
-    writing().drop();
+    drop();
     addNote(unsaved.keep({ place: "new", text: written }));
+  };
+  const offerAnew = (why, yours) => {
+    const choices = { "Put it on a new note": anew, "Let it go": drop };
+    offer(about, `${why} You wrote “${yours}”.`, choices);
   };
   return {
     now: () => textOfNote(id),
@@ -36,17 +46,15 @@ function noteField(id) {
       withdraw(about);
       lookAtNotes();
     },
-    differs: (yours) =>
+    differs: (yours) => {
+      if (!hasNote(id)) return offerAnew(GONE, yours);
       offer(about, `Meanwhile somebody wrote “${textOfNote(id)}”. You wrote “${yours}”.`, {
         "Keep yours": () => writing().insist(),
         "Keep both": anew,
-        "Take theirs": () => writing().drop(),
-      }),
-    failed: (cause, yours) => {
-      const why = cause instanceof Gone ? "That note is gone." : failure(cause);
-      const choices = { "Put it on a new note": anew, "Let it go": () => writing().drop() };
-      offer(about, `${why} You wrote “${yours}”.`, choices);
+        "Take theirs": drop,
+      });
     },
+    failed: (cause, yours) => offerAnew(failure(cause), yours),
   };
 }
 
@@ -98,6 +106,6 @@ function resumeNotes() {
   const others = unsaved.allLeft((place) => !notes.has(place));
   for (const draft of others) {
     if ([...notes.values()].some((id) => textOfNote(id) === draft.text)) unsaved.drop(draft);
-    else offerNote(draft, "That note is gone.");
+    else offerNote(draft, GONE);
   }
 }

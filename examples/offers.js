@@ -34,24 +34,27 @@ function withdraw(about) {
 
 /**
  * Tells what is gone since the relay was started anew without the document, and offers to put it
- * back, until it is there again or is let go.
+ * back, until it is there again or is let go. Of several such starts it tells together.
  * @param words gives those for so many things
  * @param gone gives a list of what was in slots of before and is not in those of now
  * @param putBack is given the slots of before
  */
 function offerAfterRestart(board, { words, gone, putBack }) {
   let last = null; // the run, and what it showed
-  let before = null; // what an earlier run showed, while some of it is gone
+  let before = []; // what earlier runs showed, the newest first, as long as some of it is gone
+  const putAllBack = async () => {
+    for (const slots of before) await putBack(slots);
+  };
   board.subscribe(() => {
-    if (last !== null && last.epoch !== board.epoch) before ??= last.slots;
+    if (last !== null && last.epoch !== board.epoch) before.unshift(last.slots);
     last = { epoch: board.epoch, slots: board.confirmed };
-    if (before !== null && gone(before, board.confirmed).length === 0) before = null;
-    const lost = before === null ? [] : gone(before, board.slots);
+    before = before.filter((slots) => gone(slots, board.confirmed).length > 0);
+    const lost = before.flatMap((slots) => gone(slots, board.slots));
     if (lost.length === 0) return withdraw("restart");
     const why = "The relay was started anew, and has not kept the document";
     offer("restart", `${why}: ${words(lost.length)}.`, {
-      "Put back": () => putBack(before).catch((cause) => say(failure(cause))),
-      "Let go": () => (before = null),
+      "Put back": () => putAllBack().catch((cause) => say(failure(cause))),
+      "Let go": () => (before = []),
     });
   });
 }

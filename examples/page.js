@@ -37,7 +37,8 @@ const ROOM = /^[A-Za-z0-9_-]{1,64}$/;
 function checkAddress(url, asked) {
   const parts = /^(wss?:[/][/][^/?#]+[/]rooms[/])([^/?#]*)$/.exec(url);
   if (parts === null || !URL.canParse(url)) {
-    refuse(`“${url}” is no room's address: that is ws://HOST:PORT/rooms/NAME, or wss://.`);
+    const wanted = "that is ws://HOST:PORT/rooms/NAME, or wss://.";
+    refuse(`“${withoutUser(url)}” is no room's address: ${wanted}`);
   }
   const name = decoded(parts[2]);
   if (ROOM.test(name)) return;
@@ -47,6 +48,11 @@ function checkAddress(url, asked) {
   const link = Object.assign(document.createElement("a"), { href: `?${asked}` });
   link.textContent = `Open “${better}”`;
   refuse(`“${name}” is no room's name: 1 to 64 of A-Z, a-z, 0-9, - and _.`, link);
+}
+
+/** The address as it may be shown: without a name and a password. */
+function withoutUser(url) {
+  return url.replace(/[/][/].*@/, "//***@");
 }
 
 function decoded(part) {

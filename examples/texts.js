@@ -4,6 +4,7 @@
 "use strict";
 
 const TRIES = 5;
+const CHANGED = "Meanwhile somebody changed that card, or put it away.";
 
 /** The cause of a save when no card has the value any more. */
 class Gone extends Error {}
@@ -22,7 +23,7 @@ async function saveText(draft) {
     await board.change((document) => putText(document, draft), { tries: TRIES });
     unsaved.drop(draft);
   } catch (cause) {
-    if (!(cause instanceof relay.Unknown)) offerText(draft, cause);
+    if (!(cause instanceof relay.Unknown)) askOf(draft, cause);
     else if (await isDone(draft)) unsaved.drop(draft);
     else saveText(draft);
   }
@@ -68,7 +69,14 @@ function theirs({ card, others }) {
   return left.length === 0 && news.length === 1 && typeof news[0] === "string" ? news[0] : null;
 }
 
-function offerText(draft, cause) {
+// The question is kept with the text: until it is answered no page saves the text by itself, since
+// the card may be as its writer saw it again.
+function askOf(draft, cause) {
+  draft.why = cause instanceof Gone ? CHANGED : failure(cause);
+  offerText(unsaved.keep(draft));
+}
+
+function offerText(draft) {
   const meant = theirs(draft);
   const yours = `You wrote “${draft.text}”.`;
   const drop = () => unsaved.drop(draft);
@@ -78,11 +86,10 @@ function offerText(draft, cause) {
     drop();
   };
   if (meant === null) {
-    const gone = "Meanwhile somebody changed that card, or put it away.";
-    const why = cause instanceof Gone ? gone : failure(cause);
-    return offer(draft, `${why} ${yours}`, { "Add it as a card": add, "Let it go": drop });
+    return offer(draft, `${draft.why} ${yours}`, { "Add it as a card": add, "Let it go": drop });
   }
   const keep = () => {
+    delete draft.why;
     draft.card.value = meant;
     saveText(draft);
   };
@@ -117,6 +124,7 @@ function offerCard(draft, why) {
 function resumeTexts() {
   for (const draft of unsaved.allLeft((place) => place === "card" || place === "added")) {
     if (isThere(draft.text)) unsaved.drop(draft);
+    else if (draft.why) offerText(draft);
     else if (draft.place === "card") saveText(draft);
     else offerCard(draft, "A card of yours may not have been saved.");
   }

@@ -1,11 +1,12 @@
 // A text that somebody writes, saved as they write. It is saved over what they saw or wrote, and
-// never over what somebody else wrote meanwhile: then the page offers both.
+// never over what somebody else wrote meanwhile: then the page offers both, also after a reload,
+// until the writer has chosen.
 "use strict";
 
 const PAUSE = 400; // milliseconds without a key, after which a text is saved
 const TRIES = 3;
 
-/** The cause of a save that would have written over somebody else's text. */
+/** The cause of a save that would have written over what somebody else did. */
 class Meanwhile extends Error {}
 
 class Writing {
@@ -13,8 +14,9 @@ class Writing {
   #unsaved;
   #place;
   #field;
-  #draft = null; // the text, until the relay has it, and those that it may be saved over
-  #differs = false; // while the writer has to choose
+  // The text, until the relay has it, those that it may be saved over, and whether the writer has
+  // to choose.
+  #draft = null;
   #sent = null; // the newest text that has no answer yet
   #timer;
 
@@ -22,7 +24,8 @@ class Writing {
    * @param place a name for what is written
    * @param field functions: `now` gives the text that is shown there, `read` that of a draft of the
    * document, and `put` sets it there. `ended` is told that the relay has the text, or that it was
-   * given up, `differs` that somebody else's stands there, and `failed` why it cannot be saved.
+   * given up, `differs` that somebody else's stands there, or nothing that could have it, and
+   * `failed` why it cannot be saved.
    */
   constructor(board, unsaved, place, field) {
     this.#board = board;
@@ -50,12 +53,13 @@ class Writing {
   resume() {
     if (this.#draft !== null) return;
     this.#draft = this.#unsaved.left(this.#place) ?? null;
+    this.look();
     this.save();
   }
 
   async save() {
     clearTimeout(this.#timer);
-    if (this.#draft === null || this.#differs) return;
+    if (this.#draft === null || this.#draft.differs) return;
     const draft = this.#draft;
     const { text } = draft;
     if (text === this.#sent) return;
@@ -72,21 +76,21 @@ class Writing {
 
   /** Tells again what stands there, as long as the writer has to choose. */
   look() {
-    if (!this.#differs) return;
+    if (!this.#draft?.differs) return;
     if (this.#field.now() === this.text) this.drop();
     else this.#field.differs(this.text);
   }
 
   /** Saves it over what stands there. */
   insist() {
-    this.#differs = false;
+    delete this.#draft.differs;
     this.#draft.seen.push(this.#field.now());
+    this.#unsaved.keep(this.#draft);
     this.save();
   }
 
   /** Gives it up, or has saved it. */
   drop() {
-    this.#differs = false;
     this.#unsaved.drop(this.#draft);
     this.#draft = null;
     this.#field.ended();
@@ -108,7 +112,8 @@ class Writing {
     } else if (!(cause instanceof Meanwhile)) {
       this.#field.failed(cause, this.text);
     } else {
-      this.#differs = true;
+      this.#draft.differs = true;
+      this.#unsaved.keep(this.#draft);
       this.look();
     }
   }

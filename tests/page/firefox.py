@@ -134,6 +134,10 @@ class FirefoxWindow(Acts):
         await self.close()
         same([text for context, text in self.browser.errors if context == self.context], [])
 
+    async def lose_focus(self, other):
+        """To another window, until it has a key."""
+        await other.say("browsingContext.activate")
+
     async def close(self):
         await self.say("browsingContext.close")
 

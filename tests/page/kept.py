@@ -8,7 +8,19 @@ from support.relay import Relay
 from support.room import Room
 from whiteboard import TEXTS
 from window import address_of, element, same, text_of
-from written import FORM, LISTED, NOTE, OFFERED, OPEN, choose, fill, opened
+from written import (
+    CHANGED,
+    FORM,
+    LISTED,
+    NOTE,
+    OFFERED,
+    OPEN,
+    choose,
+    fill,
+    opened,
+    slow,
+    typed_late,
+)
 
 VALUE = f"{element('input')}.value"
 LISTED_FORM = {**FORM, "place": {"text": "The yard", "by": "Ann"}}
@@ -72,6 +84,72 @@ async def a_new_card_that_is_not_entered_is_there_again(place):
     await board.until(LISTS, [["Buy milk"], ["Paint"], []])
     same(await board.evaluate(f"{element(new_card(2))}.value"), "")
     await board.leave()
+
+
+@in_both
+async def a_question_about_a_card_is_asked_again_after_a_reload(place):
+    board = await opened(place, "board", "card-asked", LISTED)
+    room = Room(place.relay, place.room("card-asked"))
+    await board.click(card(1, 1, ".text"))
+    await board.type("Ours")
+    await room.edit({"op": "move", "from": "/todo/0", "path": "/away/0"})
+    await board.key("Enter")
+    await board.until(OFFERED, [f"{CHANGED} You wrote “Ours”."])
+    # The card is there again, as it was seen.
+    await room.edit({"op": "move", "from": "/away/0", "path": "/todo/0"})
+    await board.until(LISTS, [["Buy milk"], [], []])
+    for _ in range(2):
+        await board.again()
+        await board.until(OFFERED, ["Meanwhile somebody wrote “Buy milk”. You wrote “Ours”."])
+        await board.until("board.pending", 0)
+        same(await board.evaluate(LISTS), [["Buy milk"], [], []])
+    await choose(board, "Keep yours")
+    await board.until(LISTS, [["Ours"], [], []])
+    await board.until("board.pending", 0)
+    await board.again()
+    await board.until(LISTS, [["Ours"], [], []])
+    same(await board.evaluate(OFFERED), [])
+    await board.leave()
+
+
+@in_both
+async def so_is_one_about_a_field(place):
+    yard = {"text": "The yard", "by": "Ann"}
+    async with slow(place, "form", "field-asked", {**FORM, "place": yard}) as (form, room):
+        await form.focus("input")
+        await typed_late(form, "The roof")
+        await room.set({"text": "The hall", "by": "Ann"}, "/place")
+        words = "Meanwhile Ann wrote “{}”. Keep yours or take theirs"
+        await form.until(text_of(".note"), words.format("The hall"))
+        await room.set(yard, "/place")
+        await form.until(text_of(".note"), words.format("The yard"))
+        await form.again()
+        await form.until("document.querySelector('.note')?.textContent", words.format("The yard"))
+        same(await form.evaluate(VALUE), "The roof")
+        await form.until("board.pending", 0)
+        same((await room.document())["place"], yard)
+        await form.press(".note button")
+        await becomes(room.document, lambda seen: seen["place"]["text"] == "The roof")
+
+
+@in_both
+async def so_is_one_about_a_note(place):
+    async with slow(place, "whiteboard", "note-asked", {"shapes": {"a": NOTE}}) as (white, room):
+        await white.until(TEXTS, [""])
+        await white.focus(".shape")
+        await white.key("Enter")
+        await typed_late(white, "Ours")
+        await room.set({}, "/shapes")
+        await white.until(OFFERED, ["That note is gone. You wrote “Ours”."])
+        await room.set({"a": NOTE}, "/shapes")
+        again = ["Meanwhile somebody wrote “”. You wrote “Ours”."]
+        await white.until(OFFERED, again)
+        await white.again()
+        await white.until(OFFERED, again)
+        await white.until("board.pending", 0)
+        same(await white.evaluate(TEXTS), [""])
+        await choose(white, "Keep yours")
+        await becomes(room.document, lambda seen: seen["shapes"]["a"]["text"] == "Ours")
 
 
 class Restarts:
@@ -145,6 +223,24 @@ async def a_card_that_is_written_while_the_relay_is_away_outlives_the_page(place
         same(await board.evaluate(OFFERED), [])
 
 
+@in_both
+async def no_card_moves_when_the_connection_is_lost(place):
+    async with Restarts(place, "board", LISTED) as (relay, board):
+        for width in (1400, 400):
+            await board.have(width, 800)
+            tops = f"{element(card(1, 1))}.getBoundingClientRect().top"
+            top = await board.evaluate(tops)
+            await relay.away()
+            silent = f"nothing answers at ws://127.0.0.1:{relay.port}/rooms/kept: start the relay"
+            await board.until(f"{text_of('#state')}.startsWith('{silent}')", True)
+            await place.picture(board, f"board-away-{width}-{place.name}")
+            same(await board.evaluate(tops), top)
+            same(await board.evaluate(f"{element('#state')}.title === {text_of('#state')}"), True)
+            relay.begin()
+            await relay.room.set(LISTED)
+            await board.until(text_of("#state"), "connected")
+
+
 GONE = {
     "board": ({**LISTED, "done": ["a", "b"]}, "3 cards are gone."),
     "whiteboard": ({"shapes": {"a": {**NOTE, "text": "Ours"}}}, "a shape is gone."),
@@ -170,3 +266,19 @@ async def what_a_restart_took_away_is_told_and_put_back(place):
             await becomes(relay.room.document, lambda seen: shown.items() <= (seen or {}).items())
             await relay.room.edit()
             same(await window.evaluate(OFFERED), [])
+
+
+@in_both
+async def what_two_restarts_took_away_is_put_back_together(place):
+    first, second = {**LISTED, "done": ["a"]}, {"todo": [], "doing": ["b"], "done": []}
+    async with Restarts(place, "board", first) as (relay, window):
+        for document, words in ((second, "2 cards are gone."), (None, "3 cards are gone.")):
+            await relay.away()
+            relay.begin()
+            await window.until(OFFERED, [ANEW + words])
+            if document:
+                await relay.room.set(document)
+                await window.until(LISTS, [[], ["b"], []])
+        await choose(window, "Put back")
+        await window.until(OFFERED, [])
+        await window.until(LISTS, [["Buy milk"], ["b"], ["a"]])

@@ -1,6 +1,9 @@
 """The pages under a strict policy, at wrong addresses, by keys and by ear."""
 
+import json
+
 from both import in_both
+from support.ports import free_port
 from window import ROOT, SEATS, address_of, element, same, text_of
 
 PAGES = ["board", "form", "inspect", "lobby", "whiteboard"]
@@ -46,6 +49,20 @@ async def a_room_that_no_relay_has_is_told_with_a_name_that_is_right(place):
     words = "“http://example.org/rooms/board” is no room's address: that is "
     await window.until(f"{STATE}?.textContent", f"{words}ws://HOST:PORT/rooms/NAME, or wss://.")
     await window.close()
+
+
+@in_both
+async def no_page_shows_the_password_of_an_address(place):
+    nobody = f"127.0.0.1:{free_port()}"
+    for page in PAGES:
+        for address, shown in [
+            (f"ws://anna:secret@{nobody}/rooms/a", f"nothing answers at ws://anna:***@{nobody}/"),
+            (f"ws://anna:pa/secret@{nobody}/rooms/a", f"“ws://***@{nobody}/rooms/a” is no room's"),
+        ]:
+            window = await place.kind.open(place.browser, address_of(page, url=address))
+            await window.until(f"{STATE}?.textContent.includes({json.dumps(shown)})", True)
+            same(await window.evaluate("document.documentElement.outerHTML.match(/secret/)"), None)
+            await window.close()
 
 
 @in_both

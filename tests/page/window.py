@@ -140,6 +140,11 @@ class Window(Acts, Page):
         same(self.told.get("Runtime.exceptionThrown"), None)
         await self.close()
 
+    async def lose_focus(self, other):
+        """To another window, until it has a key."""
+        await self.say("Emulation.setFocusEmulationEnabled", enabled=False)
+        await other.say("Page.bringToFront")
+
     async def close(self):
         await Page.leave(self)
 

@@ -17,6 +17,10 @@ FORM = {name: {"text": "", "by": ""} for name in ("place", "time", "guests", "no
 OPEN = {"board": "connected", "whiteboard": "connected", "form": "saved as you go"}
 OFFERED = "[...document.querySelectorAll('#offers span')].map((each) => each.textContent)"
 FOCUSED = "document.activeElement.closest('li')?.querySelector('.text')?.textContent ?? null"
+WRITTEN = """((input) => input.matches('li input') && [
+  input.closest('section').querySelector('.name').textContent, input.value
+])(document.activeElement)"""
+CHANGED = "Meanwhile somebody changed that card, or put it away."
 # Seconds by which an edit of a page comes late, so that somebody else is faster.
 LATE = 0.8
 
@@ -69,6 +73,25 @@ async def what_is_typed_in_a_card_is_its_text(place):
     await board.type("Nothing")
     await board.key("Escape")
     await board.until(LISTS, [["Buy milk and bread"], ["Paint the door"], []])
+    await board.leave()
+
+
+@in_both
+async def undo_by_keys_is_the_boards_in_an_input_in_which_nothing_was_written(place):
+    board = await opened(place, "board", "keys", LISTED)
+    await board.enter(new_card(1), "Bread")
+    await board.until(LISTS, [["Buy milk", "Bread"], [], []])
+    await board.until("board.pending", 0)
+    # What was typed and taken away again is the browser's.
+    await board.key("x")
+    await board.key("a", CTRL)
+    await board.key("Delete")
+    same(await board.evaluate(f"{element(new_card(1))}.value"), "")
+    await board.key("z", CTRL)
+    same(await board.evaluate("board.undoable"), 1)
+    await board.focus(new_card(2))
+    await board.key("z", CTRL)
+    await board.until(LISTS, [["Buy milk"], [], []])
     await board.leave()
 
 
@@ -133,6 +156,90 @@ async def a_card_keeps_the_focus_and_one_that_is_put_away_hands_it_on(place):
     await board.until("document.activeElement.getAttribute('aria-label')", "Add a card to Doing")
     await board.until("board.pending", 0)
     await board.leave()
+
+
+@in_both
+async def a_board_is_drawn_while_somebody_types_in_a_card(place):
+    ann = await opened(place, "board", "drawn", {**LISTED, "todo": ["Buy milk", "Paint"]})
+    bob = await place.window("board", place.room("drawn"), "Bob", width=400)
+    await bob.until(LISTS, [["Buy milk", "Paint"], [], []])
+    await ann.click(card(1, 1, ".text"))
+    await ann.keys(" and bread")
+    for _ in range(len("bread")):
+        await ann.key("ArrowLeft")
+    await bob.enter(new_card(1), "Sweep")
+    await bob.click(card(1, 2, ".on"))
+    # The card that is written is an input, so its text is in no list.
+    await ann.until(LISTS, [["Sweep"], ["Paint"], []])
+    same(await ann.evaluate(WRITTEN), ["To do", "Buy milk and bread"])
+    await place.picture(ann, f"board-drawn-{place.name}")
+    await bob.click(card(1, 1, ".on"))
+    await ann.until(WRITTEN, ["Doing", "Buy milk and bread"])
+    await ann.keys("rye ")
+    same(await ann.evaluate(WRITTEN), ["Doing", "Buy milk and rye bread"])
+    await ann.key("Enter")
+    for window in (ann, bob):
+        await window.until(LISTS, [["Sweep"], ["Paint", "Buy milk and rye bread"], []])
+        await window.leave()
+
+
+@in_both
+async def what_is_typed_in_a_card_that_is_gone_is_offered(place):
+    ann = await opened(place, "board", "gone", LISTED)
+    bob = await place.window("board", place.room("gone"), "Bob", width=400)
+    await bob.until(LISTS, [["Buy milk"], [], []])
+    await ann.click(card(1, 1, ".text"))
+    await ann.type("Ours")
+    await bob.click(card(1, 1, ".text"))
+    await bob.type("Theirs")
+    await bob.key("Enter")
+    await ann.until(LISTS, [["Theirs"], [], []])
+    same(await ann.evaluate(WRITTEN), ["To do", "Ours"])
+    await place.picture(ann, f"board-gone-{place.name}")
+    await ann.key("Enter")
+    await ann.until(OFFERED, ["Meanwhile somebody wrote “Theirs”. You wrote “Ours”."])
+    await choose(ann, "Keep both")
+    await ann.until(LISTS, [["Theirs", "Ours"], [], []])
+    await ann.click(card(1, 1, ".text"))
+    await ann.keys(" as well")
+    await bob.click(card(1, 1, ".off"))
+    await ann.until(LISTS, [["Ours"], [], []])
+    same(await ann.evaluate(WRITTEN), ["To do", "Theirs as well"])
+    await ann.key("Enter")
+    await ann.until(OFFERED, [f"{CHANGED} You wrote “Theirs as well”."])
+    same(await ann.evaluate(FOCUSED), "Ours")
+    await choose(ann, "Let it go")
+    for window in (ann, bob):
+        await window.until(LISTS, [["Ours"], [], []])
+        await window.leave()
+
+
+@in_both
+async def an_input_in_which_nothing_was_typed_goes_with_its_card_and_with_its_window(place):
+    ann = await opened(place, "board", "nothing", {**LISTED, "todo": ["Buy milk", "Paint"]})
+    room = Room(place.relay, place.room("nothing"))
+    await ann.click(card(1, 1, ".text"))
+    await room.edit({"op": "add", "path": "/todo/0", "value": "Sweep"})
+    await ann.until(LISTS, [["Sweep", "Paint"], [], []])
+    same(await ann.evaluate(WRITTEN), ["To do", "Buy milk"])
+    await room.edit({"op": "remove", "path": "/todo/1"})
+    await ann.until(WORD, CHANGED)
+    same(await ann.evaluate(LISTS), [["Sweep", "Paint"], [], []])
+    same(await ann.evaluate(FOCUSED), "Paint")
+    bob = await place.window("board", place.room("nothing"), "Bob", width=400)
+    await ann.click(card(1, 1, ".text"))
+    same(await ann.evaluate(WRITTEN), ["To do", "Sweep"])
+    await ann.lose_focus(bob)
+    await ann.until(LISTS, [["Sweep", "Paint"], [], []])
+    await ann.click(card(1, 1, ".text"))
+    await ann.keys("!")
+    await ann.lose_focus(bob)
+    await place.picture(bob, f"board-other-{place.name}")
+    same(await ann.evaluate(WRITTEN), ["To do", "Sweep!"])
+    await ann.key("Enter")
+    for window in (ann, bob):
+        await window.until(LISTS, [["Sweep!", "Paint"], [], []])
+        await window.leave()
 
 
 @in_both
