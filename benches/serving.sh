@@ -16,7 +16,7 @@ start() {
   local program=$1
   shift
   : >"$work/port"
-  "$program" serve --port 0 --epoch 1 "$@" >"$work/port" 2>"$work/errors" &
+  "$program" serve --port 0 "$@" >"$work/port" 2>"$work/errors" &
   serve=$!
   until grep -q listening "$work/port"; do
     if ! kill -0 "$serve" 2>/dev/null; then

@@ -32,7 +32,7 @@ private:
         link_.text(true);
         link_.async_accept(*head, [self = shared_from_this(), head](error_code error) {
             if (error) return;
-            self->room_ = &self->rooms_[std::string(head->target())];
+            self->room_ = &self->rooms_.named(std::string(head->target()));
             welcome(*self, *self->room_, self->number_);
             self->read();
         });

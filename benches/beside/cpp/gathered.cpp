@@ -31,16 +31,23 @@ private:
         const bool is_first = waiting_.empty() && sending_.empty();
         waiting_ += frame_head(opcode, payload.size());
         waiting_ += payload;
-        if (!is_first) return;
+        if (is_first) write_soon();
+    }
+
+    // Once all that was read by now is heard.
+    void write_soon() {
         asio::post(socket_.get_executor(), [self = shared_from_this()] { self->write(); });
     }
 
+    // What is sent may tell of each edit that was done by now, so these are kept first.
     void write() {
+        rooms_.store.commit();
         sending_.swap(waiting_);
         auto went = [self = shared_from_this()](error_code error, std::size_t) {
             if (error) return;
             self->sending_.clear();
-            if (!self->waiting_.empty()) self->write();
+            if (self->waiting_.empty()) return;
+            self->rooms_.store.is_open() ? self->write_soon() : self->write();
         };
         asio::async_write(socket_, asio::buffer(sending_), std::move(went));
     }
@@ -49,7 +56,7 @@ private:
         auto link = std::make_shared<websocket::stream<tcp::socket &>>(socket_);
         link->async_accept(*head, [self = shared_from_this(), head, link](error_code error) {
             if (error) return;
-            self->room_ = &self->rooms_[std::string(head->target())];
+            self->room_ = &self->rooms_.named(std::string(head->target()));
             welcome(*self, *self->room_, self->number_);
             self->read();
         });

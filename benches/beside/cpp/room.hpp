@@ -23,6 +23,8 @@
 
 #include <nlohmann/json.hpp>
 
+#include "store.hpp"
+
 using json = nlohmann::json;
 using Text = std::shared_ptr<const std::string>;
 using View = std::vector<std::string>;
@@ -117,12 +119,15 @@ inline json told(const json &document, std::size_t slot, const std::string &poin
 
 class Room {
 public:
+    Room(std::string name, Store &store) : name_(std::move(name)), store_(store) {}
+
     std::uint64_t rev() const { return rev_; }
 
     void edit(const json &patch) {
         // A copy, which takes the document's place where no operation was refused.
         document_ = document_.patch(patch);
         rev_ += 1;
+        if (store_.is_open()) store_.note(name_, rev_, patch.dump());
     }
 
     // Tells the watchers of an edit that was done.
@@ -161,12 +166,24 @@ public:
     }
 
 private:
+    std::string name_;
+    Store &store_;
     json document_;
     std::uint64_t rev_ = 0;
     std::map<View, std::set<Peer *>> watchers_;
 };
 
-using Rooms = std::map<std::string, Room>;
+class Rooms {
+public:
+    Store store;
+
+    Room &named(const std::string &name) {
+        return rooms_.try_emplace(name, name, store).first->second;
+    }
+
+private:
+    std::map<std::string, Room> rooms_;
+};
 
 struct Refused {
     std::string word;

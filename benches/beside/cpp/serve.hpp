@@ -49,15 +49,16 @@ private:
     std::uint64_t sessions_ = 0;
 };
 
-// `PROGRAM serve [--port PORT]` listens on 127.0.0.1, on a free port if none is named, and prints
-// `listening PORT`.
+// `PROGRAM serve [--port PORT] [--store FILE]` listens on 127.0.0.1, on a free port if none is
+// named, and prints `listening PORT`.
 template <class Session> int serve(int argc, char **argv) {
     std::uint16_t port = 0;
-    for (int i = 1; i + 1 < argc; i++) {
-        if (argv[i] != std::string_view("--port")) continue;
-        port = static_cast<std::uint16_t>(std::stoi(argv[i + 1]));
-    }
     Rooms rooms; // outlives the sessions, which the context holds
+    for (int i = 1; i + 1 < argc; i++) {
+        const std::string_view option = argv[i];
+        if (option == "--port") port = static_cast<std::uint16_t>(std::stoi(argv[i + 1]));
+        if (option == "--store") rooms.store.open(argv[i + 1]);
+    }
     asio::io_context context(1);
     Server<Session> server(context, rooms, port);
     server.accept();
