@@ -26,6 +26,7 @@ APART = {
     "RELAY=crates/relay/out/tried": "needs the kit: the gate plays tests/scripts/run",
     "install -m 640 -g www-data": "asks a person for a password: tests/behind-nginx gives a word",
     'echo "anna:$(openssl': "asks a person for a password: tests/behind-nginx gives a word",
+    "sqlite3 FILE": "puts back a backup: tests/kept plays it",
     "apt-get install ./relay_0.2.0_amd64.deb ./relay-keeper": "needs four machines: "
     "tests/several-machines plays these units, and tests/release has systemd verify them",
     "install -D -m 644 /usr/share/doc/relay/docs/running/relay-share": "as the line before",
@@ -118,11 +119,14 @@ class Running:
 
 
 def play(document, folder=HOME):
-    """All commands of a document that are not apart, in its order. What they print."""
+    """All commands of a document that are not apart, in its order. What they print. A relay that
+    one of them starts answers before the next."""
     said = []
     for command in commands(document):
         if not any(command.startswith(begin) for begin in APART):
             said.append(run(command, folder))
+            begun = re.match(r"systemctl (?:re)?start relay@(\d+)", command)
+            until(lambda: not begun or health(int(begun[1]) + 1000))
     return "".join(said)
 
 
@@ -224,11 +228,18 @@ def running_from_the_unit_to_the_keeper_in_a_database():
     run(edit)
     store = "--store postgresql://keeper@127.0.0.1/rooms --relay relay-8081"
     until(lambda: "kept" in run(f"PGPASSWORD=secret relay-keeper export {store}"))
+    # The relay with a store runs over the backup, and its files from before are beside it.
+    assert is_up(9082)
+    run("cd /var/lib/relay/8082 && ls rooms.db before/rooms.db")
+
+
+def health(admin):
+    time.sleep(0.2)
+    return run(f"curl -s http://127.0.0.1:{admin}/health || true")
 
 
 def is_up(admin):
-    time.sleep(0.2)
-    return run(f"curl -s http://127.0.0.1:{admin}/health || true") == "ok\n"
+    return health(admin) == "ok\n"
 
 
 main()

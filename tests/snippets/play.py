@@ -1,12 +1,12 @@
 """Runs the snippets of documents in Python, each in a room of its own of one relay (RELAY names the
 program), and compares what it prints with the block `text` behind it; then uses the board in a
-terminal, examples/board.py: play.py DOCUMENT...
+terminal, examples/board.py, and the usage of board.js: play.py DOCUMENT...
 
 A snippet may use `url`, `board` and `show`, as docs/CLIENTS.md says, and await. One that runs an
-event loop is a program, which goes on until it is ended: it has to edit its room, and what it
-prints last has to be what the room shows.
+event loop is a program, which goes on until Ctrl-C: it has to edit its room, what it prints last
+has to be what the room shows, and Ctrl-C has to end it without a traceback.
 """
-import ast, asyncio, os, re, sys
+import ast, asyncio, os, re, signal, subprocess, sys
 
 ROOT = os.path.dirname(os.path.dirname(os.path.dirname(os.path.abspath(__file__))))
 PACKAGE = f"{ROOT}/clients/python"
@@ -78,7 +78,7 @@ async def run_program(snippet, relay, room):
     )
     words, pipe = [sys.executable, "-u", "-c", body], asyncio.subprocess.PIPE
     program = await asyncio.create_subprocess_exec(
-        *words, stdout=pipe, env={**os.environ, "PYTHONPATH": PACKAGE}
+        *words, stdout=pipe, stderr=pipe, env={**os.environ, "PYTHONPATH": PACKAGE}
     )
     try:
         while True:
@@ -87,9 +87,16 @@ async def run_program(snippet, relay, room):
             if not line:
                 raise Wrong(f"it ends with {await program.wait()}")
             if rev > 1 and line == f"{rev} {slots}\n":
-                return
+                return await interrupt(program)
     finally:
         await ended(program)
+
+
+async def interrupt(program, wanted=0):
+    program.send_signal(signal.SIGINT)
+    _, said = await asyncio.wait_for(program.communicate(), PATIENCE)
+    if program.returncode != wanted or said:
+        raise Wrong(f"Ctrl-C ends it with {program.returncode}: {said.decode()}")
 
 
 TYPED = [
@@ -103,10 +110,23 @@ TYPED = [
 """The lines that are typed into examples/board.py, and what it prints then."""
 
 
-async def use_board(relay):
-    words = [sys.executable, f"{ROOT}/examples/board.py", str(relay.port), "board"]
+async def board_in_terminal(relay, room):
+    words = [sys.executable, f"{ROOT}/examples/board.py", str(relay.port), room]
     pipe = asyncio.subprocess.PIPE
-    program = await asyncio.create_subprocess_exec(*words, stdin=pipe, stdout=pipe)
+    return await asyncio.create_subprocess_exec(*words, stdin=pipe, stdout=pipe, stderr=pipe)
+
+
+async def leave_board(relay):
+    program = await board_in_terminal(relay, "left")
+    try:
+        await asyncio.wait_for(program.stdout.readline(), PATIENCE)
+        await interrupt(program, -signal.SIGINT)
+    finally:
+        await ended(program)
+
+
+async def use_board(relay):
+    program = await board_in_terminal(relay, "board")
     try:
         for typed, prints in TYPED:
             program.stdin.write(b"" if typed is None else f"{typed}\n".encode())
@@ -121,6 +141,18 @@ async def use_board(relay):
     finally:
         await ended(program)
     print("examples/board.py shows at once what is typed, and undoes it")
+
+
+async def refuse_words():
+    """Of both boards in a terminal: other words than a port and a room's name get the usage."""
+    for words in ([sys.executable, "board.py"], ["node", "board.js"]):
+        program = [*words[:-1], f"{ROOT}/examples/{words[-1]}"]
+        for wrong in ([], ["port"], ["8080", "bad room"], ["8080", "board", "more"]):
+            ran = subprocess.run([*program, *wrong], capture_output=True, text=True)
+            said = ran.stdout + ran.stderr
+            if not ran.returncode or "PORT [ROOM]" not in said or "    at " in said:
+                raise Wrong(f"{words[-1]} says of {wrong}: {ran.returncode}: {said}")
+    print("both boards in a terminal print their usage")
 
 
 async def ended(program):
@@ -150,6 +182,8 @@ async def main(*documents):
                     flush=True,
                 )
         await checked("examples/board.py", use_board(relay))
+        await checked("examples/board.py", leave_board(relay))
+        await checked("examples/", refuse_words())
     finally:
         await relay.end()
     if not number:
