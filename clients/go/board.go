@@ -53,6 +53,7 @@ type Change struct {
 // Asked is a view that was asked for.
 type Asked struct {
 	number int
+	only   []Shown // the view of which the slots have to be; nil if those of a later one will do
 	done   chan struct{}
 	change Change
 	err    error
@@ -61,14 +62,24 @@ type Asked struct {
 // Done is closed when its slots are there, or when it has failed.
 func (a *Asked) Done() <-chan struct{} { return a.done }
 
-// Wait gives the slots of the view, or those of a later one. It fails with *Refused, and the view
-// before stays; with ErrClosed; or with the context.
+// Wait gives the slots of the view. It fails with *Refused, and the view before stays; with
+// ErrSuperseded, if another view was watched and its slots came in their place; with ErrClosed; or
+// with the context.
 func (a *Asked) Wait(ctx context.Context) (Change, error) {
 	select {
 	case <-a.done:
 		return a.change, a.err
 	case <-ctx.Done():
 		return Change{}, ctx.Err()
+	}
+}
+
+// come ends what was asked for with slots that came.
+func (a *Asked) come(change Change) {
+	if a.only == nil || isSameView(a.only, change.View) {
+		a.end(change, nil)
+	} else {
+		a.end(Change{}, ErrSuperseded)
 	}
 }
 
@@ -152,7 +163,7 @@ func (b *Board) Ready(ctx context.Context) (Change, error) {
 		defer b.lock.Unlock()
 		return *b.latest, nil
 	}
-	first := b.wait(0)
+	first := b.wait(0, nil)
 	b.lock.Unlock()
 	return first.Wait(ctx)
 }
@@ -216,26 +227,32 @@ func (b *Board) Watch(ctx context.Context, view []Shown) (Change, error) {
 func (b *Board) Ask(view []Shown) *Asked {
 	b.lock.Lock()
 	defer b.lock.Unlock()
-	return b.ask(append([]Shown{}, view...))
+	own := append([]Shown{}, view...)
+	return b.ask(own, own)
 }
 
-func (b *Board) ask(view []Shown) *Asked {
+func (b *Board) ask(view, only []Shown) *Asked {
 	b.asked++
-	asked := b.wait(b.asked)
+	asked := b.wait(b.asked, only)
 	b.session.watch(b.asked, view)
 	return asked
+}
+
+// askAgain asks for the slots of the view that is wanted, or of a later one.
+func (b *Board) askAgain() *Asked {
+	return b.ask(b.session.wanted.view, nil)
 }
 
 // Sync gives slots that have every edit which was accepted before. It costs a snapshot.
 func (b *Board) Sync(ctx context.Context) (Change, error) {
 	b.lock.Lock()
-	asked := b.ask(b.session.wanted.view)
+	asked := b.askAgain()
 	b.lock.Unlock()
 	return asked.Wait(ctx)
 }
 
-func (b *Board) wait(number int) *Asked {
-	asked := &Asked{number: number, done: make(chan struct{})}
+func (b *Board) wait(number int, only []Shown) *Asked {
+	asked := &Asked{number: number, only: only, done: make(chan struct{})}
 	if b.session.state == Closed {
 		asked.end(Change{}, b.whyClosed())
 	} else {
@@ -342,7 +359,7 @@ func (b *Board) settle() {
 	b.overlay.take(present.shows)
 	if b.overlay.settle(present) && !b.isAsking && b.session.state == Open {
 		b.isAsking = true
-		b.ask(b.session.wanted.view)
+		b.askAgain()
 	}
 	if b.overlay.pending() != before {
 		b.publish(nil)

@@ -338,6 +338,24 @@ func TestWhatMayTouchNoSlotIsNotWaitedFor(t *testing.T) {
 	room.shows(`[[["a"]]]`)
 }
 
+func TestAWatchThatAnotherOneReplacesIsSuperseded(t *testing.T) {
+	room := begun(t, Options{}, "/a", `[["a"]]`)
+	watches := []*Asked{}
+	for _, pointer := range []string{"/b", "/c", "/c"} {
+		watches = append(watches, room.board.Ask(View(pointer)))
+		room.reply(`"kind":"watching"`)
+	}
+	room.hear(`{"kind":"snapshot","rev":1,"view":[["c"]]}`)
+	if _, err := watches[0].Wait(soon(t)); err != ErrSuperseded {
+		t.Error(err)
+	}
+	for _, watch := range watches[1:] {
+		if seen, err := watch.Wait(soon(t)); err != nil || !isSameView(seen.View, View("/c")) {
+			t.Error(seen, err)
+		}
+	}
+}
+
 func TestAnEditWhoseAnswerWasLostIsSentAgain(t *testing.T) {
 	room := begun(t, Options{}, "/n", `[[0]]`)
 	raise := Patch{Replace("/n", 1)}

@@ -12,6 +12,8 @@ import (
 var (
 	// ErrClosed is how what was asked for fails if the board was closed before it was sent.
 	ErrClosed = errors.New("relay: the board is closed")
+	// ErrSuperseded is how a watch fails if another view was watched before its slots came.
+	ErrSuperseded = errors.New("relay: another view was watched before its slots came")
 	// ErrNotShown is how a place fails that the view does not show, or of which no slots came yet. So
 	// does an End before the first slots.
 	ErrNotShown = errors.New("relay: the view does not show it")

@@ -55,7 +55,7 @@ func (t *told) shown(number int, cause *Refused) {
 	for _, one := range b.waiters {
 		switch {
 		case cause == nil && one.number <= number:
-			one.end(*b.latest, nil)
+			one.come(*b.latest)
 		case cause != nil && one.number == number:
 			one.end(Change{}, cause)
 		default:

@@ -16,6 +16,18 @@ type Shown struct {
 	IsSize  bool
 }
 
+func isSameView(one, other []Shown) bool {
+	if len(one) != len(other) {
+		return false
+	}
+	for i, shown := range one {
+		if shown != other[i] {
+			return false
+		}
+	}
+	return true
+}
+
 // View shows the values at these pointers.
 func View(pointers ...string) []Shown {
 	view := make([]Shown, len(pointers))

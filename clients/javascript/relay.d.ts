@@ -381,8 +381,9 @@ export interface Board<D = Json, V extends readonly Shown[] = readonly Shown[]> 
    */
   at<P extends Shown>(shown: P): Place<ValueOf<D, P>>;
   /**
-   * Shows another view from now on. Gives its slots, or those of a later view where one was asked
-   * for in the meantime. Fails with `Refused`, and the view before stays; and with `Closed`.
+   * Shows another view from now on. Gives its slots. Fails with `Refused`, and the view before
+   * stays; with `Superseded`, where another view was asked for and its slots came in their place;
+   * and with `Closed`.
    */
   watch<W extends readonly Shown[]>(view: readonly [...W]): Promise<SlotsOf<D, W>>;
   /**
@@ -617,6 +618,12 @@ export class Unknown extends Error {
    */
   readonly rev: number | null;
 }
+
+/**
+ * Another view was watched before the slots of this one came. It is no unhandled rejection where
+ * nobody looks at it.
+ */
+export class Superseded extends Error {}
 
 /** The board was closed before what was asked for was sent. */
 export class Closed extends Error {}

@@ -103,6 +103,15 @@ class Unknown extends Failure {
   }
 }
 
+/** Another view was asked for later, and its slots came in place of those of this one. */
+class Superseded extends Failure {
+  message = "another view was watched before its slots came";
+
+  get [KIND]() {
+    return "Superseded";
+  }
+}
+
 /** The board was closed, and what was asked for was not sent. */
 class Closed extends Failure {
   message = "the board is closed";
@@ -190,7 +199,7 @@ function isWatching(url) {
   return /^[^?#]*\/rooms\/[\w-]+\/watch$/.test(url);
 }
 
-return { Closed, HandshakeFailed, Refused, Unknown, isWatching };
+return { Closed, HandshakeFailed, Refused, Superseded, Unknown, isWatching };
 })();
 
 const editModule = (() => {
@@ -1127,9 +1136,9 @@ return {
 const followerModule = (() => {
 // The slots of a view as the relay shows them, kept right over lost connections and restarts
 // (docs/PROTOCOL.md, "What a client does").
-const { Closed, Refused } = errorsModule;
+const { Closed, Refused, Superseded } = errorsModule;
 const { applied } = knownModule;
-const { checked, frozen } = jsonModule;
+const { checked, frozen, same } = jsonModule;
 
 /**
  * @typedef {import("./link.mjs").Link} Link
@@ -1144,11 +1153,14 @@ const { checked, frozen } = jsonModule;
  * }} Held
  * @typedef {{
  *   number: number,
+ *   only: readonly Shown[] | null,
  *   resolve: (slots: any) => void,
  *   reject: (cause: Error) => void,
  * }} Waiter
+ * Waits for the slots of a view, or of any that was asked for later; `only` for those of that one.
  * @typedef {{
  *   took: (before: Held, patch: Operation[] | null) => void,
+ *   slots: () => readonly Slot[] | null,
  *   present: () => void,
  *   refused: (cause: Refused) => void,
  * }} Hearer
@@ -1164,7 +1176,7 @@ class Follower {
   /** @type {Held} */
   #held = { number: -1, view: [], slots: null, rev: null, epoch: null };
   /** @type {Waiter[]} */
-  #waiters = []; // each is told when the snapshot of its view, or of a later one, is there
+  #waiters = [];
   /** @type {Error | null} */
   #ended = null;
 
@@ -1181,26 +1193,48 @@ class Follower {
 
   /** The view that is wanted, anew: its slots are of the room's revision. */
   watchAgain() {
-    return this.watch(this.#wanted.view);
+    return this.#watch(this.#wanted.view, null);
   }
 
-  /** @param {readonly Shown[]} view */
+  /**
+   * The slots of this view: `Superseded` where those of another one come in their place.
+   * @param {readonly Shown[]} view
+   */
   watch(view) {
-    this.#wanted = { number: this.#wanted.number + 1, view: checked(view) };
-    const shown = this.shown();
+    const only = checked(view);
+    return this.#watch(only, only);
+  }
+
+  /**
+   * The slots of this view, or of one that is asked for later.
+   * @param {readonly Shown[]} view
+   */
+  watchOrLater(view) {
+    return this.#watch(checked(view), null);
+  }
+
+  /** The slots of the view that was asked for last, or of a later one. */
+  shown() {
+    return this.#shown(null);
+  }
+
+  /** @param {readonly Shown[]} view @param {readonly Shown[] | null} only */
+  #watch(view, only) {
+    this.#wanted = { number: this.#wanted.number + 1, view };
+    const shown = this.#shown(only);
     if (this.#link.welcome !== null) this.#link.ask(this.#watching());
     return shown;
   }
 
   /**
-   * The slots of the view that was asked for last.
+   * @param {readonly Shown[] | null} only
    * @returns {Promise<any>}
    */
-  shown() {
+  #shown(only) {
     const { number } = this.#wanted;
     return new Promise((resolve, reject) => {
       if (this.#ended !== null) reject(this.#ended);
-      else this.#waiters.push({ number, resolve, reject });
+      else this.#waiters.push({ number, only, resolve, reject });
     });
   }
 
@@ -1303,7 +1337,10 @@ class Follower {
     try {
       this.#on.took(before, patch);
     } finally {
-      for (const waiter of told) waiter.resolve(this.#held.slots);
+      for (const { only, resolve, reject } of told) {
+        if (only === null || same(only, this.#held.view)) resolve(this.#on.slots());
+        else reject(new Superseded());
+      }
     }
   }
 }
@@ -4372,7 +4409,7 @@ return { warning };
 
 const boardModule = (() => {
 // A room, as an application has it: the slots of a view, and edits.
-const { Closed, Refused } = errorsModule;
+const { Closed, Refused, Superseded } = errorsModule;
 const { Edit } = editModule;
 const { Follower } = followerModule;
 const { History } = historyModule;
@@ -4472,11 +4509,12 @@ class Board {
     this.#will = wills(this.#link);
     this.#follower = new Follower(view, this.#link, {
       took: (before, patch) => this.#took(before, patch),
+      slots: () => this.slots,
       present: () => this.#present(),
       refused: (cause) => this.#finish(cause),
     });
     /** The first slots. */
-    this.ready = this.#follower.shown().then(() => this.slots);
+    this.ready = this.#follower.shown();
     this.ready.catch(NOTHING);
     this.subscribe = this.subscribe.bind(this);
     for (const { patch, ...seen } of this.#queue.left()) this.#editLeft(patch, seen);
@@ -4547,7 +4585,20 @@ class Board {
   /** @param {readonly Shown[]} view */
   watch(view) {
     checkView("watch", view);
-    return this.#follower.watch(view).then(() => this.slots);
+    const shown = this.#follower.watch(view).catch((cause) => {
+      // Whoever asked for another view need not look at what became of this one.
+      if (cause instanceof Superseded) shown.catch(NOTHING);
+      throw cause;
+    });
+    return shown;
+  }
+
+  /**
+   * For what this client keeps going by itself: the slots of a view, or of a later one.
+   * @param {readonly Shown[]} view
+   */
+  watchOrLater(view) {
+    return this.#follower.watchOrLater(view);
   }
 
   /** The slots, once all that was said so far is answered and shown. */
@@ -4558,7 +4609,7 @@ class Board {
 
   /** For what this client keeps going by itself: the slots, of the room's revision. */
   watchAgain() {
-    return this.#follower.watchAgain().then(() => this.slots);
+    return this.#follower.watchAgain();
   }
 
   /**
@@ -5006,7 +5057,7 @@ class Shared {
       wanted.length !== this.#wanted.length ||
       !wanted.every((shown, k) => same(shown, this.#wanted[k]))
     ) {
-      this.#shown = this.board.watch(wanted);
+      this.#shown = this.board.watchOrLater(wanted);
     }
     this.#wanted = wanted;
     return this.#shown;
@@ -5536,7 +5587,7 @@ const { checkOptions, checkView } = optionsModule;
 const { checked } = jsonModule;
 const { afterAll, knownBy, slotOf, slotsOf } = knownModule;
 
-const { Closed, HandshakeFailed, Refused, Unknown } = errorsModule;
+const { Closed, HandshakeFailed, Refused, Superseded, Unknown } = errorsModule;
 const { inspected } = inspectedModule;
 const { pointer } = pointerModule;
 const { presence } = presenceModule;
@@ -5603,6 +5654,7 @@ return {
   Closed,
   HandshakeFailed,
   Refused,
+  Superseded,
   Unknown,
   connect,
   inspected,
@@ -5617,6 +5669,7 @@ const {
   Closed,
   HandshakeFailed,
   Refused,
+  Superseded,
   Unknown,
   connect,
   inspected,
@@ -5629,6 +5682,7 @@ export {
   Closed,
   HandshakeFailed,
   Refused,
+  Superseded,
   Unknown,
   connect,
   inspected,

@@ -10,12 +10,13 @@ import {
   Closed,
   HandshakeFailed,
   Refused,
+  Superseded,
   connect,
   overlaid,
   room,
 } from "../../clients/javascript/relay.mjs";
 import { relayStore } from "../../clients/javascript/adapters/svelte.mjs";
-import { begunRoom, boards, boardsOf, cuttable, newRoom, until } from "./rooms.mjs";
+import { begunRoom, boards, boardsOf, cuttable, newRoom, scripted, until } from "./rooms.mjs";
 
 test("a value that JSON cannot say, or the relay refuses, is named by its path", async (t) => {
   const [board] = await boards(t, ["/cards"]);
@@ -451,6 +452,40 @@ test("a Vue ref holds what is shown, until its component ends", async (t) => {
   ends.forEach((end) => end());
   await board.at("/title").set("Other");
   assert.equal(title.value, "Party");
+});
+
+test("a watch that another one replaces is superseded, and shows no other slots", async (t) => {
+  const asked = [];
+  const WebSocket = scripted(({ id, view: [pointer] }, tell) => {
+    asked.push(pointer);
+    tell({ kind: "watching", id });
+    // The snapshot that is due for `/b` is that of the view after it.
+    if (pointer !== "/b") tell({ kind: "snapshot", rev: 1, view: [[pointer]] });
+  });
+  const board = connect("ws://example.org/rooms/a", { view: ["/a"], WebSocket });
+  t.after(() => board.close());
+  await board.ready;
+  const watches = ["/b", "/c", "/c"].map((pointer) => board.watch([pointer]));
+  await assert.rejects(watches[0], Superseded);
+  assert.deepEqual(await Promise.all(watches.slice(1)), [[["/c"]], [["/c"]]]);
+  // The slots of `sync` are those of whatever is watched then.
+  board.watch(["/b"]);
+  const synced = board.sync();
+  await until(() => asked.length === 6);
+  board.watch(["/d"]);
+  assert.deepEqual(await synced, [["/d"]]);
+  assert.deepEqual(asked, ["/a", "/b", "/c", "/c", "/b", "/b", "/d"]);
+});
+
+test("of two watches at once each gives its own slots, or is superseded", async (t) => {
+  const [board] = await boards(t, []);
+  for (let round = 0; round < 100; round += 1) {
+    const ends = [["/title"], ["/count"]].map((view) => board.watch(view));
+    const [title, count] = await Promise.allSettled(ends);
+    assert.deepEqual(count.value, [[0]]);
+    if (title.status === "rejected") assert.ok(title.reason instanceof Superseded, title.reason);
+    else assert.deepEqual(title.value, [["Shopping"]]);
+  }
 });
 
 test("a closed board sends nothing", async (t) => {

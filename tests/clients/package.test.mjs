@@ -11,6 +11,7 @@ import { fileURLToPath, pathToFileURL } from "node:url";
 import { runInNewContext } from "node:vm";
 
 const NAME = "@bolsteregret/relay";
+const KINDS = ["Refused", "Unknown", "Superseded", "Closed", "HandshakeFailed"];
 const ROOT = fileURLToPath(new URL("../../", import.meta.url));
 const folder = mkdtempSync(join(tmpdir(), "relay-package-"));
 after(() => rmSync(folder, { recursive: true }));
@@ -51,14 +52,13 @@ test("an error of one copy is an instance of the class of another", async () => 
     const errors = [
       new one.Refused({ fault: "stale", rev: 1 }),
       new one.Unknown(),
+      new one.Superseded(),
       new one.Closed(),
       new one.HandshakeFailed("refused", "ws://h/rooms/a", 404),
     ];
     for (const other of copies) {
       for (const error of errors) {
-        const kinds = ["Refused", "Unknown", "Closed", "HandshakeFailed"].filter(
-          (kind) => error instanceof other[kind],
-        );
+        const kinds = KINDS.filter((kind) => error instanceof other[kind]);
         assert.deepEqual([kinds, error instanceof Error], [[error.name], true]);
       }
       for (const no of [null, undefined, 5, "Refused", {}, new Error("Refused")]) {

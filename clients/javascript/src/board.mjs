@@ -1,5 +1,5 @@
 // A room, as an application has it: the slots of a view, and edits.
-import { Closed, Refused } from "./errors.mjs";
+import { Closed, Refused, Superseded } from "./errors.mjs";
 import { Edit } from "./edit.mjs";
 import { Follower } from "./follower.mjs";
 import { History } from "./history.mjs";
@@ -99,11 +99,12 @@ export class Board {
     this.#will = wills(this.#link);
     this.#follower = new Follower(view, this.#link, {
       took: (before, patch) => this.#took(before, patch),
+      slots: () => this.slots,
       present: () => this.#present(),
       refused: (cause) => this.#finish(cause),
     });
     /** The first slots. */
-    this.ready = this.#follower.shown().then(() => this.slots);
+    this.ready = this.#follower.shown();
     this.ready.catch(NOTHING);
     this.subscribe = this.subscribe.bind(this);
     for (const { patch, ...seen } of this.#queue.left()) this.#editLeft(patch, seen);
@@ -174,7 +175,20 @@ export class Board {
   /** @param {readonly Shown[]} view */
   watch(view) {
     checkView("watch", view);
-    return this.#follower.watch(view).then(() => this.slots);
+    const shown = this.#follower.watch(view).catch((cause) => {
+      // Whoever asked for another view need not look at what became of this one.
+      if (cause instanceof Superseded) shown.catch(NOTHING);
+      throw cause;
+    });
+    return shown;
+  }
+
+  /**
+   * For what this client keeps going by itself: the slots of a view, or of a later one.
+   * @param {readonly Shown[]} view
+   */
+  watchOrLater(view) {
+    return this.#follower.watchOrLater(view);
   }
 
   /** The slots, once all that was said so far is answered and shown. */
@@ -185,7 +199,7 @@ export class Board {
 
   /** For what this client keeps going by itself: the slots, of the room's revision. */
   watchAgain() {
-    return this.#follower.watchAgain().then(() => this.slots);
+    return this.#follower.watchAgain();
   }
 
   /**

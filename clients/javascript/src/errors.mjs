@@ -51,6 +51,15 @@ export class Unknown extends Failure {
   }
 }
 
+/** Another view was asked for later, and its slots came in place of those of this one. */
+export class Superseded extends Failure {
+  message = "another view was watched before its slots came";
+
+  get [KIND]() {
+    return "Superseded";
+  }
+}
+
 /** The board was closed, and what was asked for was not sent. */
 export class Closed extends Failure {
   message = "the board is closed";

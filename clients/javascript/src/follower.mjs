@@ -1,8 +1,8 @@
 // The slots of a view as the relay shows them, kept right over lost connections and restarts
 // (docs/PROTOCOL.md, "What a client does").
-import { Closed, Refused } from "./errors.mjs";
+import { Closed, Refused, Superseded } from "./errors.mjs";
 import { applied } from "./known.mjs";
-import { checked, frozen } from "./json.mjs";
+import { checked, frozen, same } from "./json.mjs";
 
 /**
  * @typedef {import("./link.mjs").Link} Link
@@ -17,11 +17,14 @@ import { checked, frozen } from "./json.mjs";
  * }} Held
  * @typedef {{
  *   number: number,
+ *   only: readonly Shown[] | null,
  *   resolve: (slots: any) => void,
  *   reject: (cause: Error) => void,
  * }} Waiter
+ * Waits for the slots of a view, or of any that was asked for later; `only` for those of that one.
  * @typedef {{
  *   took: (before: Held, patch: Operation[] | null) => void,
+ *   slots: () => readonly Slot[] | null,
  *   present: () => void,
  *   refused: (cause: Refused) => void,
  * }} Hearer
@@ -37,7 +40,7 @@ export class Follower {
   /** @type {Held} */
   #held = { number: -1, view: [], slots: null, rev: null, epoch: null };
   /** @type {Waiter[]} */
-  #waiters = []; // each is told when the snapshot of its view, or of a later one, is there
+  #waiters = [];
   /** @type {Error | null} */
   #ended = null;
 
@@ -54,26 +57,48 @@ export class Follower {
 
   /** The view that is wanted, anew: its slots are of the room's revision. */
   watchAgain() {
-    return this.watch(this.#wanted.view);
+    return this.#watch(this.#wanted.view, null);
   }
 
-  /** @param {readonly Shown[]} view */
+  /**
+   * The slots of this view: `Superseded` where those of another one come in their place.
+   * @param {readonly Shown[]} view
+   */
   watch(view) {
-    this.#wanted = { number: this.#wanted.number + 1, view: checked(view) };
-    const shown = this.shown();
+    const only = checked(view);
+    return this.#watch(only, only);
+  }
+
+  /**
+   * The slots of this view, or of one that is asked for later.
+   * @param {readonly Shown[]} view
+   */
+  watchOrLater(view) {
+    return this.#watch(checked(view), null);
+  }
+
+  /** The slots of the view that was asked for last, or of a later one. */
+  shown() {
+    return this.#shown(null);
+  }
+
+  /** @param {readonly Shown[]} view @param {readonly Shown[] | null} only */
+  #watch(view, only) {
+    this.#wanted = { number: this.#wanted.number + 1, view };
+    const shown = this.#shown(only);
     if (this.#link.welcome !== null) this.#link.ask(this.#watching());
     return shown;
   }
 
   /**
-   * The slots of the view that was asked for last.
+   * @param {readonly Shown[] | null} only
    * @returns {Promise<any>}
    */
-  shown() {
+  #shown(only) {
     const { number } = this.#wanted;
     return new Promise((resolve, reject) => {
       if (this.#ended !== null) reject(this.#ended);
-      else this.#waiters.push({ number, resolve, reject });
+      else this.#waiters.push({ number, only, resolve, reject });
     });
   }
 
@@ -176,7 +201,10 @@ export class Follower {
     try {
       this.#on.took(before, patch);
     } finally {
-      for (const waiter of told) waiter.resolve(this.#held.slots);
+      for (const { only, resolve, reject } of told) {
+        if (only === null || same(only, this.#held.view)) resolve(this.#on.slots());
+        else reject(new Superseded());
+      }
     }
   }
 }

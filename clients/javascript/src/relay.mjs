@@ -7,7 +7,7 @@ import { checkOptions, checkView } from "./options.mjs";
 import { checked } from "./json.mjs";
 import { afterAll, knownBy, slotOf, slotsOf } from "./known.mjs";
 
-export { Closed, HandshakeFailed, Refused, Unknown } from "./errors.mjs";
+export { Closed, HandshakeFailed, Refused, Superseded, Unknown } from "./errors.mjs";
 export { inspected } from "./inspected.mjs";
 export { pointer } from "./pointer.mjs";
 export { presence } from "./presence.mjs";

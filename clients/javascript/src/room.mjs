@@ -84,7 +84,7 @@ class Shared {
       wanted.length !== this.#wanted.length ||
       !wanted.every((shown, k) => same(shown, this.#wanted[k]))
     ) {
-      this.#shown = this.board.watch(wanted);
+      this.#shown = this.board.watchOrLater(wanted);
     }
     this.#wanted = wanted;
     return this.#shown;

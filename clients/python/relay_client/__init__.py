@@ -12,7 +12,7 @@ from .board import Board, connect
 from .changes import Change
 from .draft import DraftList, DraftObject
 from .elements import Keyed
-from .faults import Closed, HandshakeFailed, Refused, Unknown
+from .faults import Closed, HandshakeFailed, Refused, Superseded, Unknown
 from .place import Place
 from .pointers import pointer
 from .transport import Link, LinkLost, OpenLink
@@ -37,6 +37,7 @@ __all__ = [
     "Slot",
     "Slots",
     "State",
+    "Superseded",
     "Unknown",
     "View",
     "connect",

@@ -193,9 +193,9 @@ class Board:
         return self._listeners.read(self._change(None))
 
     async def watch(self, view: View) -> Slots:
-        """Shows other pointers from now on. Gives their slots, or those of a later view if one was
-        asked for in the meantime. Fails with `Refused`, and the view before stays; and with
-        `Closed`."""
+        """Shows other pointers from now on. Gives their slots. Fails with `Refused`, and the view
+        before stays; with `Superseded`, if another view was watched and its slots came in their
+        place; and with `Closed`."""
         return await self._follower.watch(checked_view("watch", view))
 
     async def sync(self) -> Slots:

@@ -48,6 +48,13 @@ class Unknown(Exception):
         be done."""
 
 
+class Superseded(Exception):
+    """Another view was watched before the slots of this one came."""
+
+    def __init__(self) -> None:
+        super().__init__("another view was watched before its slots came")
+
+
 class Closed(Exception):
     """The board was closed before what was asked for was sent."""
 

@@ -10,7 +10,7 @@ import asyncio
 from dataclasses import dataclass, replace
 from typing import Callable, List, Optional
 
-from .faults import Closed, Refused
+from .faults import Closed, Refused, Superseded
 from .link import Astray, RoomLink, settle
 from .patch import DoesNotFit, applied
 from .requests import Asked, Message
@@ -49,6 +49,8 @@ class Hearer:
 @dataclass
 class _Waiter:
     number: int
+    only: Optional[View]
+    """The view of which the slots have to be; None if those of a later one will do."""
     shown: "asyncio.Future[Slots]"
 
 
@@ -64,26 +66,29 @@ class Follower:
         self._ended: Optional[Exception] = None
 
     def watch(self, view: View) -> "asyncio.Future[Slots]":
-        """The slots of that view, or of one that is asked for later."""
+        """The slots of that view: `Superseded` if those of another one come in their place."""
+        return self._watch(view, view)
+
+    def watch_again(self) -> "asyncio.Future[Slots]":
+        """The view that is wanted, anew: its slots are of the room's revision."""
+        return self._watch(self._wanted.view, None)
+
+    def _watch(self, view: View, only: Optional[View]) -> "asyncio.Future[Slots]":
         self._wanted = Wanted(self._wanted.number + 1, view)
-        shown = self.shown()
+        shown = self.shown(only)
         if self._link.welcome is not None:
             self._link.ask(self._watching())
         return shown
 
-    def watch_again(self) -> "asyncio.Future[Slots]":
-        """The view that is wanted, anew: its slots are of the room's revision."""
-        return self.watch(self._wanted.view)
-
-    def shown(self) -> "asyncio.Future[Slots]":
-        """The slots of the view that was asked for last, when they are there."""
+    def shown(self, only: Optional[View] = None) -> "asyncio.Future[Slots]":
+        """The slots of the view that was asked for last, or of a later one, when they are there."""
         shown: "asyncio.Future[Slots]" = asyncio.get_running_loop().create_future()
         # Nobody has to look at it.
         shown.add_done_callback(lambda shown: shown.cancelled() or shown.exception())
         if self._ended is not None:
             shown.set_exception(Closed())
         else:
-            self._waiters.append(_Waiter(self._wanted.number, shown))
+            self._waiters.append(_Waiter(self._wanted.number, only, shown))
         return shown
 
     def end(self, cause: Optional[Exception]) -> None:
@@ -177,7 +182,11 @@ class Follower:
         before, self.held = self.held, held
         single, self._resumed_by_patch = patch is not None and not self._resumed_by_patch, False
         for waiter in self._waiters:
-            if waiter.number <= held.of.number and not waiter.shown.done():
+            if waiter.number > held.of.number or waiter.shown.done():
+                continue
+            if waiter.only in (None, held.of.view):
                 waiter.shown.set_result(held.slots)
+            else:
+                waiter.shown.set_exception(Superseded())
         self._waiters = [waiter for waiter in self._waiters if waiter.number > held.of.number]
         self._on.took(before, held, patch, single)

@@ -193,6 +193,38 @@ class Connections(unittest.IsolatedAsyncioTestCase):
         await board.close()
 
 
+class Views(unittest.IsolatedAsyncioTestCase):
+    async def asyncSetUp(self):
+        self.relay = FakeRelay()
+        self.board = await self.relay.begin(["/a"], [["a"]])
+
+    async def asyncTearDown(self):
+        await self.board.close()
+
+    async def replies(self):
+        """Answers all watches, and gives the slots of the last one."""
+        asked = [request for request in self.relay.link.sent if request["do"] == "watch"]
+        await self.relay.say(*(watching(request["id"]) for request in asked[1:]))
+        await self.relay.say(snapshot(1, [[asked[-1]["view"][0]]]))
+
+    async def test_a_watch_that_another_one_replaces_is_superseded(self):
+        asked = [self.board.watch([pointer]) for pointer in ("/b", "/c", "/c")]
+        watches = asyncio.gather(*asked, return_exceptions=True)
+        await settle()
+        await self.replies()
+        superseded, *shown = await watches
+        self.assertIsInstance(superseded, relay_client.Superseded)
+        self.assertEqual(shown, [[["/c"]], [["/c"]]])
+
+    async def test_a_sync_waits_for_whatever_is_watched(self):
+        synced = asyncio.ensure_future(self.board.sync())
+        await settle()
+        watched = asyncio.ensure_future(self.board.watch(["/b"]))
+        await settle()
+        await self.replies()
+        self.assertEqual((await synced, await watched), ([["/b"]], [["/b"]]))
+
+
 class Optimistic(unittest.IsolatedAsyncioTestCase):
     async def asyncSetUp(self):
         self.relay, self.changes, self.taken_back = FakeRelay(), [], []

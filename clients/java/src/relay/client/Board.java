@@ -53,7 +53,7 @@ public final class Board implements AutoCloseable {
     private final Newest newest;
     private final List<Consumer<Change>> listeners = new CopyOnWriteArrayList<>();
     /** Each waits for the slots of the view that was asked for by its number, or of a later one. */
-    private final TreeMap<Integer, CompletableFuture<Change>> waiters = new TreeMap<>();
+    private final TreeMap<Integer, Waiter> waiters = new TreeMap<>();
     private final CompletableFuture<Change> ready = new CompletableFuture<>();
     private final Deque<Patch> undoing = new ArrayDeque<>();
     private final Deque<Patch> redoing = new ArrayDeque<>();
@@ -71,7 +71,7 @@ public final class Board implements AutoCloseable {
         executor = options.executor != null ? options.executor : Options.ownThread();
         newest = new Newest(executor);
         listeners.add(options.onChange);
-        waiters.put(0, ready);
+        waiters.put(0, new Waiter(ready, null));
         session = new Session(address, view, options, lock, new Hearer());
         synchronized (lock) {
             session.connect();
@@ -143,23 +143,31 @@ public final class Board implements AutoCloseable {
         return newest;
     }
 
-    /** Shows another view from now on. Gives its slots, or those of a later one. */
+    /**
+     * Shows another view from now on. Gives its slots. Fails with {@code Refused}, and the view
+     * before stays; with {@code Superseded}, if another view was watched and its slots came in
+     * their place; with {@code Closed}.
+     */
     public CompletableFuture<Change> watch(List<Shown> view) {
-        CompletableFuture<Change> answer = new CompletableFuture<>();
         List<Shown> own = List.copyOf(view);
         synchronized (lock) {
-            if (session.isClosed()) return CompletableFuture.failedFuture(whyClosed());
-            waiters.put(++asked, answer);
-            session.watch(asked, own);
+            return watch(own, own);
         }
-        return answer;
     }
 
     /** Slots that have every edit which was accepted before. It costs a snapshot. */
     public CompletableFuture<Change> sync() {
         synchronized (lock) {
-            return watch(session.wanted());
+            return watch(session.wanted(), null);
         }
+    }
+
+    private CompletableFuture<Change> watch(List<Shown> view, List<Shown> only) {
+        if (session.isClosed()) return CompletableFuture.failedFuture(whyClosed());
+        CompletableFuture<Change> answer = new CompletableFuture<>();
+        waiters.put(++asked, new Waiter(answer, only));
+        session.watch(asked, view);
+        return answer;
     }
 
     // Edits.
@@ -413,6 +421,18 @@ public final class Board implements AutoCloseable {
         return closedBy != null ? closedBy : new RelayException.Closed();
     }
 
+    /**
+     * Waits for the slots of a view, or of any that is watched later.
+     *
+     * @param only the view of which the slots have to be; null if those of a later one will do
+     */
+    private record Waiter(CompletableFuture<Change> answer, List<Shown> only) {
+        void come(Change change) {
+            if (only == null || only.equals(change.view())) answer.complete(change);
+            else answer.completeExceptionally(new RelayException.Superseded());
+        }
+    }
+
     private final class Hearer implements Session.Hearer {
         @Override
         public void held(Session.Held before, Session.Held now, Patch patch, boolean single) {
@@ -448,8 +468,8 @@ public final class Board implements AutoCloseable {
             if (state != State.CLOSED) return;
             closedBy = cause;
             RelayException why = whyClosed();
-            for (CompletableFuture<Change> one : waiters.values()) {
-                tell(() -> one.completeExceptionally(why));
+            for (Waiter one : waiters.values()) {
+                tell(() -> one.answer.completeExceptionally(why));
             }
             waiters.clear();
             becomeQuiet();
@@ -459,13 +479,13 @@ public final class Board implements AutoCloseable {
         @Override
         public void shown(int number, RelayException.Refused cause) {
             if (cause != null) {
-                CompletableFuture<Change> refused = waiters.remove(number);
-                if (refused != null) tell(() -> refused.completeExceptionally(cause));
+                Waiter refused = waiters.remove(number);
+                if (refused != null) tell(() -> refused.answer.completeExceptionally(cause));
                 return;
             }
-            Map<Integer, CompletableFuture<Change>> told = waiters.headMap(number, true);
+            Map<Integer, Waiter> told = waiters.headMap(number, true);
             Change change = shown;
-            for (CompletableFuture<Change> one : told.values()) tell(() -> one.complete(change));
+            for (Waiter one : told.values()) tell(() -> one.come(change));
             told.clear();
         }
     }

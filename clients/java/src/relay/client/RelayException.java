@@ -64,6 +64,15 @@ public abstract class RelayException extends RuntimeException {
         }
     }
 
+    /** Another view was watched before the slots of this one came. */
+    public static final class Superseded extends RelayException {
+        private static final long serialVersionUID = 1;
+
+        Superseded() {
+            super("another view was watched before its slots came");
+        }
+    }
+
     /** The board was closed before what was asked for was sent. */
     public static final class Closed extends RelayException {
         private static final long serialVersionUID = 1;

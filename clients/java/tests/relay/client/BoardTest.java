@@ -371,6 +371,25 @@ final class BoardTest {
         board.close();
     }
 
+    static void aWatchThatAnotherOneReplacesIsSuperseded() {
+        Played relay = new Played();
+        Board board = relay.begun(relay.options(), "/a", "[['a']]");
+        List<CompletableFuture<Change>> watches = new ArrayList<>();
+        for (String pointer : List.of("/b", "/c", "/c")) {
+            watches.add(board.watch(List.of(Shown.value(pointer))));
+            relay.reply("'kind':'watching'");
+        }
+        CompletableFuture<Change> synced = board.sync();
+        relay.reply("'kind':'watching'");
+        relay.hear("{'kind':'snapshot','rev':1,'view':[['c']]}");
+        fails(RelayException.Superseded.class, () -> watches.get(0).join());
+        List<Shown> view = List.of(Shown.value("/c"));
+        for (CompletableFuture<Change> shown : List.of(watches.get(1), watches.get(2), synced)) {
+            equal(view, shown.join().view());
+        }
+        board.close();
+    }
+
     static void anEditWhoseAnswerWasLostIsSentAgain() {
         Played relay = new Played();
         Board board = relay.begun(relay.options(), "/n", "[[0]]");
