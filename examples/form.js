@@ -86,7 +86,7 @@ FIELDS.forEach(({ name: field, label, long }) => {
 });
 
 offerAfterRestart(board, {
-  words: (count) => (count === 1 ? "a field is empty now" : `${count} fields are empty now`),
+  words: ({ length }) => (length === 1 ? "a field is empty now" : `${length} fields are empty now`),
   gone: (before, now) =>
     FIELDS.filter((_, k) => textOf(before[k][0]) !== "" && textOf(now[k][0]) === ""),
   putBack: (before) => board.change((document) => putBack(document, before)),

@@ -132,5 +132,7 @@ function ask(lost, patch) {
 
 at("leave").onclick = () => at("sure").close();
 at("patch").addEventListener("keydown", (event) => {
-  if (event.key === "Enter" && (event.ctrlKey || event.metaKey)) at("edit").requestSubmit();
+  if (event.key !== "Enter" || !(event.ctrlKey || event.metaKey)) return;
+  event.preventDefault(); // in Firefox this key would press a button of the dialog that it opens
+  at("edit").requestSubmit();
 });

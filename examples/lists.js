@@ -273,10 +273,26 @@ addEventListener("keydown", (event) => {
 });
 
 offerAfterRestart(board, {
-  words: (count) => (count === 1 ? "a card is gone" : `${count} cards are gone`),
-  gone: (before, now) => missing(before, now),
+  words: wordsOf,
+  gone: (before, now) => [...missing(before, now), ...missingAway(before, now)],
   putBack: (before) => board.change((document) => putBack(document, before)),
 });
+
+/** Tells how many cards are gone, and how many of those that were put away. */
+function wordsOf(gone) {
+  const seen = gone.filter(({ name }) => name !== null).length;
+  const away = gone.length - seen;
+  const cards = seen === 1 ? "a card is gone" : `${seen} cards are gone`;
+  const others =
+    away === 1 ? "a card that was put away is gone" : `${away} that were put away are gone`;
+  return [seen && cards, away && `${others} for good`].filter(Boolean).join(", and ");
+}
+
+/** As many as were put away before and are not now. No window has what is written on them. */
+function missingAway(before, now) {
+  const [had, has] = [before, now].map((slots) => slots[LISTS.length][0] ?? 0);
+  return Array(Math.max(0, had - has)).fill({ name: null });
+}
 
 /** Cards of slots of before that no list has now, each with the name of its list. */
 function missing(before, now) {

@@ -35,7 +35,7 @@ function withdraw(about) {
 /**
  * Tells what is gone since the relay was started anew without the document, and offers to put it
  * back, until it is there again or is let go. Of several such starts it tells together.
- * @param words gives those for so many things
+ * @param words gives those for a list of what is gone
  * @param gone gives a list of what was in slots of before and is not in those of now
  * @param putBack is given the slots of before
  */
@@ -52,7 +52,7 @@ function offerAfterRestart(board, { words, gone, putBack }) {
     const lost = before.flatMap((slots) => gone(slots, board.slots));
     if (lost.length === 0) return withdraw("restart");
     const why = "The relay was started anew, and has not kept the document";
-    offer("restart", `${why}: ${words(lost.length)}.`, {
+    offer("restart", `${why}: ${words(lost)}.`, {
       "Put back": () => putAllBack().catch((cause) => say(failure(cause))),
       "Let go": () => (before = []),
     });

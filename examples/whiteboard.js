@@ -128,7 +128,7 @@ for (const button of document.querySelectorAll(".tools button")) {
 }
 
 offerAfterRestart(board, {
-  words: (count) => (count === 1 ? "a shape is gone" : `${count} shapes are gone`),
+  words: ({ length }) => (length === 1 ? "a shape is gone" : `${length} shapes are gone`),
   gone: (before, now) =>
     Object.keys(object(before[0][0])).filter((id) => !Object.hasOwn(object(now[0][0]), id)),
   putBack: (before) => board.change((document) => putBack(document, before[0][0])),

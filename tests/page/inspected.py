@@ -3,7 +3,7 @@
 from both import in_both
 from support.patience import becomes
 from support.room import Room
-from window import element, same, text_of
+from window import CTRL, element, same, text_of
 
 LISTED = {"todo": ["Buy milk"], "title": "Shopping"}
 ASKED = "This takes away the whole document (object of 2), for everybody."
@@ -51,6 +51,13 @@ async def a_patch_that_takes_the_whole_document_away_is_asked_about(place):
             await place.picture(window, f"inspect-asks-{place.name}")
         await window.key("Escape")
         await window.until(IS_OPEN, False)
+    # By the keys too: those that ask for it do not answer the question.
+    await window.focus("#patch")
+    await window.type(ROOTS[1])
+    await window.key("Enter", CTRL)
+    same(await window.evaluate(f"[{IS_OPEN}, {text_of('#lost')}]"), [True, ASKED])
+    await window.key("Escape")
+    await window.until(IS_OPEN, False)
     same(await room.document(), LISTED)
     await try_to_edit(window, '[{"op":"add","path":"/todo/-","value":"bread"}]')
     await becomes(room.document, lambda seen: seen["todo"] == ["Buy milk", "bread"])

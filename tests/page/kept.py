@@ -269,6 +269,19 @@ async def what_a_restart_took_away_is_told_and_put_back(place):
 
 
 @in_both
+async def cards_that_were_put_away_are_told_to_be_gone_for_good(place):
+    async with Restarts(place, "board", {**LISTED, "away": ["a"]}) as (relay, window):
+        await relay.away()
+        relay.begin()
+        away = "a card that was put away is gone for good."
+        await window.until(OFFERED, [f"{ANEW}a card is gone, and {away}"])
+        await choose(window, "Put back")
+        await window.until(OFFERED, [ANEW + away])
+        await choose(window, "Let go")
+        await window.until(OFFERED, [])
+
+
+@in_both
 async def what_two_restarts_took_away_is_put_back_together(place):
     first, second = {**LISTED, "done": ["a"]}, {"todo": [], "doing": ["b"], "done": []}
     async with Restarts(place, "board", first) as (relay, window):
