@@ -80,8 +80,8 @@ class Nginx:
             servers = "".join(f"    server 127.0.0.1:{port} max_fails=0;\n" for port in relays)
             conf = re.sub(r"( *server 127\.0\.0\.1:\d+ max_fails=0;\n)+", servers, conf)
         conf = conf.replace("listen 443", f"listen {self.address}:{self.port}")
-        for folder in ("/etc/ssl/", "/etc/nginx/"):
-            conf = conf.replace(folder, f"{self.folder}/")
+        for place in ("/etc/ssl/relay.", "/etc/nginx/relay.", "/srv/relay"):
+            conf = conf.replace(place, f"{self.folder}/{pathlib.Path(place).name}")
         (self.folder / "relay.conf").write_text(conf)
         paths = "".join(f"{name}_temp_path {self.folder}/{name};" for name in PATHS)
         user = " user www-data;" if os.getuid() == 0 else ""
