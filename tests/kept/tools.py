@@ -230,7 +230,11 @@ def a_backup_is_put_back_by_the_steps_of_running(store):
     check(store.file)
     again = kept(store.file)
     assert again.rooms == held.rooms and again.epoch != held.epoch, again
-    assert kept(store.path / "before/rooms.db") == spoilt
+    (before,) = store.path.glob("before.*")
+    assert kept(before / "rooms.db") == spoilt
+    # What is done again sets aside what is there then, and not what was set aside before.
+    assert b"rooms 3\n" == does(put_back, store.path)
+    assert kept(before / "rooms.db") == spoilt and len(list(store.path.glob("before.*"))) == 2
     with store.relay(store.file) as relay, Client(relay.port, "board") as client:
         seen = {"epoch": spoilt.epoch, "rev": spoilt.rooms["board"][0]}
         assert client.ask(request("resume", **seen, view=[""]))["how"] == "snapshot"
@@ -263,9 +267,13 @@ def an_import_that_is_refused_makes_nothing(store):
     assert store.refused(first, "\n", *rooms) == line(2)
     assert store.refused(first, *rooms, '{"room":"x","rev":1}\n') == line(5)
     assert store.refused(first, *rooms, rooms[-1][:-3]) == line(5)
-    said = "relay: no relay may have these rooms\n"
-    assert store.refused(first, *rooms, rooms[0]) == said
-    assert store.refused(first, rooms[0].replace("Lobby", "a b")) == said
+    twice = "relay: two rooms have one name, or there are more than a relay may have\n"
+    assert store.refused(first, *rooms, rooms[0]) == twice
+    by = "by its name, revision or document\n"
+    room = f"relay: line {{}} has a room that no relay may have, {by}".format
+    assert store.refused(first, rooms[0].replace("Lobby", "a b")) == room(2)
+    heavy = json.dumps({"room": "heavy", "rev": 1, "document": "x" * 300_000}) + "\n"
+    assert store.refused(first, *rooms, heavy, rooms[0].replace("Lobby", "a b")) == room(5)
 
 
 @shows

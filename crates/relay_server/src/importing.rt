@@ -64,21 +64,75 @@ fn listing_of(alloc: Global, export: &Export) -> Result<Listing, ToolFault>
         (committed (begun export.now.epoch) (map owned export.now.changes.items))) }
     ensures fault { IfErr result (λ fault. fault ≢ Output) }
 {
-    let config = HubConfig {
-        rooms: export.rooms.max(1),
-        ..HubConfig::new(export.epoch, FIRST_SESSION, 1, 1)
-    };
-    let store = MemoryStore::new(alloc, export.epoch);
-    match take_up(alloc, config, store, &export.changes) {
-        Ok(_) => {}
-        Err(StoreFault::NoMemory) => return Err(ToolFault::NoMemory),
-        Err(_) => return Err(ToolFault::Rooms),
+    match may_have(alloc, export.epoch, export.rooms, &export.changes) {
+        Ok(true) => {}
+        Ok(false) => return Err(refused_room(alloc, export)),
+        Err(AllocError) => return Err(ToolFault::NoMemory),
     }
     let listing = Listing::of(alloc, &export.changes)?;
     if listing.rooms.len() as u64 != export.rooms {
         return Err(ToolFault::Rooms);
     }
     Ok(listing)
+}
+
+/// Returns whether a relay of that epoch may have so many rooms, which these changes make.
+fn may_have(
+    alloc: Global,
+    epoch: u64,
+    rooms: u64,
+    changes: &Vec<Change<String>>,
+) -> Result<bool, AllocError> {
+    let config = HubConfig {
+        rooms: rooms.max(1),
+        ..HubConfig::new(epoch, FIRST_SESSION, 1, 1)
+    };
+    match take_up(alloc, config, MemoryStore::new(alloc, epoch), changes) {
+        Ok(_) => Ok(true),
+        Err(StoreFault::NoMemory) => Err(AllocError),
+        Err(_) => Ok(false),
+    }
+}
+
+/// The fault of an export whose rooms no relay may have together: the line of the first room that
+/// none may have by itself, if there is one.
+fn refused_room(alloc: Global, export: &Export) -> ToolFault
+    ensures { result ≢ Output }
+{
+    let mut line = 1u64;
+    for change in &export.changes {
+        if let Change::Begin {
+            room,
+            revision,
+            text,
+        } = change
+        {
+            line = line.saturating_add(1);
+            match may_have_one(alloc, export.epoch, room, *revision, text) {
+                Ok(true) => {}
+                Ok(false) => return ToolFault::Room(line),
+                Err(AllocError) => return ToolFault::NoMemory,
+            }
+        }
+    }
+    ToolFault::Rooms
+}
+
+/// Returns whether a relay of that epoch may have the room of a record.
+fn may_have_one(
+    alloc: Global,
+    epoch: u64,
+    room: &String,
+    revision: u64,
+    text: &String,
+) -> Result<bool, AllocError> {
+    let mut changes = Vec::with_capacity(alloc, 1)?;
+    changes.push(Change::Begin {
+        room: String::from_str(alloc, room.as_str())?,
+        revision,
+        text: String::from_str(alloc, text.as_str())?,
+    })?;
+    may_have(alloc, epoch, 1, &changes)
 }
 
 /// Keeps the rooms of an export in a store that keeps nothing, and moves its log into the file.

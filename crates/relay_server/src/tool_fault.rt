@@ -24,8 +24,11 @@ pub(crate) enum ToolFault {
     /// A line of the input is not one that an export has at its place. The first line is 1.
     #[error("line {0} is of no export")]
     Line(u64),
-    /// No relay may have the rooms of the input.
-    #[error("no relay may have these rooms")]
+    /// No relay may have the room of this line of the input.
+    #[error("line {0} has a room that no relay may have, by its name, revision or document")]
+    Room(u64),
+    /// No relay may have all rooms of the input.
+    #[error("two rooms have one name, or there are more than a relay may have")]
     Rooms,
     #[error("input")]
     Input,

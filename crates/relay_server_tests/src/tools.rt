@@ -60,9 +60,10 @@ relay store import --store none < {"epoch":7,"floor":3}\n{"room":"b","rev":"5","
 relay store import --store none < {"epoch":7,"floor":3}\n{"room":"b","rev":5,"document":[1.5]}\n => relay: line 2 is of no export\nstatus 1
 relay store import --store none < {"epoch":7,"floor":3}\n{"room":"b","rev":5,"document":[]\n => relay: line 2 is of no export\nstatus 1
 
-# So it is if no relay may have its rooms.
-relay store import --store none < {"epoch":7,"floor":0}\n{"room":"b","rev":1,"document":1}\n{"room":"b","rev":2,"document":2}\n => relay: no relay may have these rooms\nstatus 1
-relay store import --store none < {"epoch":7,"floor":0}\n{"room":"a b","rev":1,"document":1}\n => relay: no relay may have these rooms\nstatus 1
+# So it is if no relay may have its rooms: one by itself, or all together.
+relay store import --store none < {"epoch":7,"floor":0}\n{"room":"b","rev":1,"document":1}\n{"room":"b","rev":2,"document":2}\n => relay: two rooms have one name, or there are more than a relay may have\nstatus 1
+relay store import --store none < {"epoch":7,"floor":0}\n{"room":"a b","rev":1,"document":1}\n => relay: line 2 has a room that no relay may have, by its name, revision or document\nstatus 1
+relay store import --store none < {"epoch":7,"floor":3}\n{"room":"a","rev":1,"document":1}\n{"room":"","rev":1,"document":1}\n => relay: line 3 has a room that no relay may have, by its name, revision or document\nstatus 1
 "#;
 
 #[test]
