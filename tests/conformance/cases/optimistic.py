@@ -153,3 +153,23 @@ def a_value_from_elsewhere_is_not_shown(driver):
     play.shows([[SHOWN]])
     play.draw(1)
     play.shows([[[1, *SHOWN]]])
+
+
+@case(
+    "The revision of a `done` is of the epoch of its connection: slots of another epoch do not "
+    "show the edit, also if their revision is higher.",
+    needs="optimistic",
+)
+def slots_of_another_run_do_not_show_an_edit(driver):
+    play = begun(driver, rev=9)
+    play.cut()
+    play.relay.restart(BOARD, epoch=8)
+    back(play)
+    optimistic(play, push("bread"))
+    play.heard()
+    play.draw(len(play.relay.replies))
+    play.holds(CARDS, [[SHOWN]], 9)
+    play.shows([[[*SHOWN, "bread"]]])
+    play.talk()
+    play.holds_present(CARDS)
+    play.shows([[[*SHOWN, "bread"]]])

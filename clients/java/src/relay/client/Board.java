@@ -381,7 +381,7 @@ public final class Board implements AutoCloseable {
         Session.Held held = session.held();
         if (held == null) return;
         int before = overlay.pending();
-        overlay.leave(held);
+        overlay.leaveShown(held);
         if (overlay.mayWaitForNothing(held) && !isAsking && session.state() == State.OPEN) {
             isAsking = true;
             session.watch(++asked, session.wanted());

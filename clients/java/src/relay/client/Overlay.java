@@ -37,6 +37,11 @@ final class Overlay {
         return left;
     }
 
+    /** An edit was done: takes those that the slots show. Slots of another run show none. */
+    void leaveShown(Session.Held held) {
+        edits.removeIf(edit -> edit.rev > 0 && edit.run == held.epoch() && edit.rev <= held.rev());
+    }
+
     /** The slots are those of the room's revision: what was done touched none of them. */
     void leaveDone() {
         edits.removeIf(edit -> edit.rev > 0);
