@@ -11,6 +11,11 @@ import (
 // this client until it drew one.
 const onTheWay = 31
 
+// The messages that answer a request if it is not refused, by what it does.
+var replies = map[any]string{
+	"edit": "done", "watch": "watching", "resume": "resumed", "will": "willing",
+}
+
 // Bytes of a text. A longer one ends its connection without an answer, each time that it is sent.
 const longest = 1056768
 
@@ -400,17 +405,16 @@ func (s *session) take(told *message) error {
 	case told.Kind == "patch":
 		return s.takePatch(told)
 	}
-	switch told.Kind {
-	case "done", "refused", "watching", "resumed", "willing":
-		return s.answer(told)
-	}
-	return errAstray // none comes that was not asked for by something new
+	return s.answer(told)
 }
 
 // answer takes a reply. They come in the order of the requests; the id says so, if the relay could
-// read it.
+// read it. None of another kind comes that was not asked for by something new.
 func (s *session) answer(reply *message) error {
 	if len(s.sent) == 0 || (reply.ID != nil && *reply.ID != s.sent[0].id) {
+		return errAstray
+	}
+	if reply.Kind != "refused" && reply.Kind != replies[s.sent[0].members["do"]] {
 		return errAstray
 	}
 	one := s.sent[0]

@@ -24,8 +24,14 @@ const NO_ROOM = 404;
 // As the relay refuses a text that it still reads.
 const TOO_LONG = { kind: "refused", fault: "too-long", at: null };
 
-// The messages that answer a request. The welcome does not.
-const REPLIES = ["done", "refused", "watching", "resumed", "willing"];
+// The messages that answer a request if it is not refused, each with what it answers. The welcome
+// answers none.
+const REPLIES = new Map([
+  ["done", "edit"],
+  ["watching", "watch"],
+  ["resumed", "resume"],
+  ["willing", "will"],
+]);
 
 /**
  * A request: what is sent, the id with which it was, and what becomes of it. Only an edit has the
@@ -33,7 +39,7 @@ const REPLIES = ["done", "refused", "watching", "resumed", "willing"];
  *
  * @typedef {{ epoch: number, rev: number }} Welcome
  * @typedef {{
- *   request: object,
+ *   request: { do?: string },
  *   id?: number,
  *   answered: (reply: any) => void,
  *   ahead?: (welcome: Welcome) => Asked | typeof WAITS | null | undefined,
@@ -301,7 +307,7 @@ export class Link {
       if (message.kind === "welcome" && this.#welcome === null) this.#enter(message);
       else if (this.#welcome === null) this.#on.astray();
       else if (message.kind === "snapshot" || message.kind === "patch") this.#tell(message);
-      else if (REPLIES.includes(message.kind) && this.#isOfOldest(message)) this.#answer(message);
+      else if (this.#answersOldest(message)) this.#answer(message);
       else this.#on.astray();
     } finally {
       // Also where an application's function throws.
@@ -335,10 +341,11 @@ export class Link {
   }
 
   // Replies come in the order of their requests; the id says so, if the relay could read it.
-  /** @param {any} reply */
-  #isOfOldest({ id }) {
+  /** @param {any} message */
+  #answersOldest({ id, kind }) {
     const [oldest] = this.#sent;
-    return oldest !== undefined && (id === null || id === oldest.id);
+    if (oldest === undefined || (id !== null && id !== oldest.id)) return false;
+    return kind === "refused" || (REPLIES.has(kind) && REPLIES.get(kind) === oldest.request.do);
   }
 
   /** @param {any} reply */

@@ -28,8 +28,9 @@ NO_ROOM = 404
 TOO_LONG: Message = {"kind": "refused", "fault": "too-long", "at": None}
 """As the relay refuses a text that it still reads."""
 
-REPLIES = ("done", "refused", "watching", "resumed", "willing")
-"""The messages that answer a request. The welcome does not."""
+REPLIES = {"done": "edit", "watching": "watch", "resumed": "resume", "willing": "will"}
+"""The messages that answer a request if it is not refused, each with what it answers. The welcome
+answers none."""
 
 
 class Astray(Exception):
@@ -316,10 +317,8 @@ class RoomLink:
                 self._enter(message)
             elif kind in ("snapshot", "patch"):
                 self._tell(message)
-            elif kind in REPLIES:
-                self._answer(message)
             else:
-                raise Astray()  # none comes that was not asked for by something new
+                self._answer(message)
         except (KeyError, TypeError, ValueError) as error:
             raise Astray() from error
         self._to_send.set()
@@ -345,11 +344,14 @@ class RoomLink:
         self._on.told(message)
 
     def _answer(self, reply: Message) -> None:
-        """Replies come in the order of their requests; the id says so, if the relay could read
-        it."""
+        """Replies come in the order of their requests; the id says so, if the relay could read it.
+        None of another kind comes that was not asked for by something new."""
         if not self._sent or reply["id"] not in (self._sent[0].id, None):
             raise Astray()
-        if reply["kind"] == "watching" or reply.get("how") in ("patch", "snapshot"):
+        kind, asked = reply["kind"], self._sent[0].request
+        if kind != "refused" and (kind not in REPLIES or REPLIES[kind] != asked.get("do")):
+            raise Astray()
+        if kind == "watching" or reply.get("how") in ("patch", "snapshot"):
             self._due = True
         elif reply.get("how") == "nothing":
             self._patience.slots_came()

@@ -131,3 +131,29 @@ def a_snapshot_of_other_slots_is_not_taken(driver):
     play.drops()
     play.talk()
     play.holds_present(CARDS)
+
+
+@case(
+    "A reply of the kind that answers another request answers none. The client drops the "
+    "connection, and an edit that it came for is unknown."
+)
+def a_reply_of_another_kind_answers_nothing(driver):
+    play = begun(driver)
+    for reply in [
+        {"kind": "watching"},
+        {"how": "nothing", "kind": "resumed"},
+        {"kind": "willing"},
+    ]:
+        key = play.edit(replace("/n", 2))
+        [request] = play.asked("edit")
+        play.say({"id": request["id"], **reply})
+        play.drops()
+        play.ended(key, unknown=True)
+        play.talk()
+        play.holds_present(CARDS)
+    play.watch(["/n"])
+    [request] = play.asked("watch")
+    play.say({"id": request["id"], "kind": "done", "rev": 9})
+    play.drops()
+    play.talk()
+    play.holds_present(["/n"])

@@ -11,7 +11,6 @@ import java.util.ArrayList;
 import java.util.Deque;
 import java.util.List;
 import java.util.Objects;
-import java.util.Set;
 import java.util.concurrent.Executors;
 import java.util.concurrent.ScheduledExecutorService;
 import java.util.concurrent.ScheduledFuture;
@@ -33,8 +32,6 @@ final class Session {
     private static final int NO_ROOM = 404;
 
     private static final int DOUBLINGS = 5;
-    private static final Set<String> REPLIES =
-            Set.of("done", "refused", "watching", "resumed", "willing");
     private static final JsonNode TOO_LONG =
             Json.NODES.objectNode().put("kind", "refused").put("fault", "too-long");
     private static final ScheduledExecutorService TIMERS =
@@ -425,8 +422,7 @@ final class Session {
         else if (welcome == null) throw new Misfit("before the welcome");
         else if (kind.equals("snapshot")) takeSnapshot(message);
         else if (kind.equals("patch")) takePatch(message);
-        else if (REPLIES.contains(kind)) answer(message);
-        else throw new Misfit("none comes that was not asked for by something new");
+        else answer(message);
     }
 
     /**
@@ -457,6 +453,7 @@ final class Session {
         if (oldest == null || !(id.isNull() || (id.isLong() && id.longValue() == oldest.id))) {
             throw new Misfit("a reply to no request");
         }
+        if (!oldest.isAnsweredBy(kindOf(reply))) throw new Misfit("a reply of another kind");
         if (kindOf(reply).equals("done")) count(reply, "rev");
         sent.poll();
         oldest.answered(reply);
