@@ -1,7 +1,7 @@
 """Texts that are no messages, and messages that do not follow from those before them."""
 from play import Play
 from relay import Relay
-from .common import BOARD, CARDS, begun, case, push, replace
+from .common import BOARD, CARDS, back, begun, case, push, replace
 
 NO_JSON = [
     "",
@@ -131,6 +131,44 @@ def a_snapshot_of_other_slots_is_not_taken(driver):
     play.drops()
     play.talk()
     play.holds_present(CARDS)
+
+
+@case(
+    "A snapshot or a patch that comes before the reply to the first request of a connection is of "
+    "no view, also if slots of an earlier connection are held. It is not taken."
+)
+def slots_before_the_first_reply_are_not_taken(driver):
+    play = begun(driver)
+    for message in [
+        {"kind": "snapshot", "rev": 2, "view": [[["other"]]]},
+        {"kind": "patch", "patch": [replace("/0/0/0", "other")], "rev": 2},
+    ]:
+        play.cut()
+        back(play)
+        play.say(message)
+        play.holds_present(CARDS)
+        play.asks_anew()
+        play.talk()
+        play.holds_present(CARDS)
+
+
+@case(
+    "What does not fit is not forgotten with its connection: if the next one is lost before its "
+    "snapshot, the client watches on the one after it as well."
+)
+def a_misfit_is_not_forgotten_before_the_snapshot(driver):
+    play = begun(driver)
+    misfit = {"kind": "patch", "patch": [{"op": "remove", "path": "/0/0/9"}], "rev": 5}
+    for replies in (0, 1):
+        play.say(misfit)
+        play.relay.edit(push("bread"))
+        play.asks_anew()
+        play.draw(replies)
+        play.cut()
+        play.accept()
+        play.asks_anew()
+        play.talk()
+        play.holds_present(CARDS)
 
 
 @case(
