@@ -1,12 +1,12 @@
 """Edits that show at once: what a client shows is the slots held, with such edits laid over them
 until the slots show them."""
-from .common import BOARD, CARDS, back, begun, case, push
+from .common import BOARD, CARDS, back, begun, case, push, replace
 
 SHOWN = ["milk", "tea"]
 
 
-def optimistic(play, *patch):
-    return play.edit(*patch, optimistic=True)
+def optimistic(play, *patch, **more):
+    return play.edit(*patch, optimistic=True, **more)
 
 
 @case(
@@ -156,6 +156,67 @@ def a_value_from_elsewhere_is_not_shown(driver):
 
 
 @case(
+    "An edit that does not fit the slots is left over them: it shows once it fits later ones.",
+    needs="optimistic",
+)
+def an_edit_shows_once_it_fits(driver):
+    play = begun(driver)
+    key = optimistic(play, replace("/cards/2", "bread"))
+    play.shows([[SHOWN]])
+    for operation, cards in [
+        (push("salt"), [*SHOWN, "bread"]),
+        ({"op": "remove", "path": "/cards/2"}, SHOWN),
+        (push("oil"), [*SHOWN, "bread"]),
+    ]:
+        play.relay.edit(operation)
+        play.draw(1)
+        play.shows([[cards]])
+    play.talk()
+    play.ended(key, done=5)
+    play.shows([[[*SHOWN, "bread"]]])
+
+
+@case(
+    "Slots of another epoch leave an edit laid over that was not done: it goes to that epoch.",
+    needs="optimistic",
+)
+def an_edit_that_waits_is_laid_over_another_run(driver):
+    play = begun(driver)
+    play.cut()
+    key = optimistic(play, push("bread"))
+    # A client may refuse it at once.
+    waits = ["bread"] if play.end_of(key) is None else []
+    play.relay.restart({"cards": ["other"]}, epoch=8)
+    play.accept()
+    play.heard(1)
+    play.draw(2)
+    play.holds_present(CARDS)
+    play.shows([[["other", *waits]]])
+    play.talk()
+    play.shows([[["other", *waits]]])
+
+
+@case(
+    "An edit with a base that is sent again stays laid over while the connection is lost, until it "
+    "is answered.",
+    needs="optimistic",
+)
+def an_edit_that_is_sent_again_stays_laid_over(driver):
+    play = begun(driver)
+    key = optimistic(play, push("bread"), base=1)
+    play.driver.look()
+    play.driver.said.clear()
+    play.cut()
+    waits = ["bread"] if play.end_of(key) is None else []
+    play.shows([[[*SHOWN, *waits]]])
+    play.accept()
+    play.shows([[[*SHOWN, *waits]]])
+    play.talk()
+    play.holds_present(CARDS)
+    play.shows([[[*SHOWN, *waits]]])
+
+
+@case(
     "The revision of a `done` is of the epoch of its connection: slots of another epoch do not "
     "show the edit, also if their revision is higher.",
     needs="optimistic",
@@ -173,3 +234,63 @@ def slots_of_another_run_do_not_show_an_edit(driver):
     play.talk()
     play.holds_present(CARDS)
     play.shows([[[*SHOWN, "bread"]]])
+
+
+@case(
+    "An edit touches a slot or none by the view that is held, and not by one that is asked for.",
+    needs="optimistic",
+)
+def an_edit_touches_the_view_that_is_held(driver):
+    play = begun(driver)
+    optimistic(play, push("bread"))
+    play.watch(["/n"])
+    play.heard(1)
+    play.draw(1)
+    play.holds(CARDS, [[SHOWN]], 1)
+    play.shows([[[*SHOWN, "bread"]]])
+    play.draw(1)
+    play.holds_present(CARDS)
+    play.shows([[[*SHOWN, "bread"]]])
+    play.talk()
+    play.shows([[1]])
+
+
+@case(
+    "A size stays as it is if a member is added that is there, and also if the slots do not tell "
+    "whether it is.",
+    needs="optimistic",
+)
+def an_edit_over_a_member_leaves_the_size(driver):
+    size, ann = {"size": "/players"}, "/players/ann"
+    play = begun(driver, [size])
+    optimistic(play, {"op": "add", "path": ann, "value": 4})
+    play.shows([[1]])
+    play.talk()
+    play.watch([size, ann])
+    play.talk()
+    optimistic(play, {"op": "add", "path": ann, "value": 5})
+    play.shows([[1], [5]])
+    play.talk()
+    play.holds_present([size, ann])
+    play.shows([[1], [5]])
+
+
+@case(
+    "`resumed` with `nothing` takes off an edit that was done: nothing is on its way that could "
+    "show it.",
+    needs="optimistic",
+)
+def a_resume_with_nothing_takes_off_what_was_done(driver):
+    play = begun(driver)
+    key = optimistic(play, push("bread"))
+    play.asked("edit")
+    play.draw(1)
+    play.ended(key, done=2)
+    play.cut()
+    # The epoch was given twice, and the room is at the revision that is held.
+    play.relay.restart(BOARD, epoch=7, rev=1)
+    [request] = back(play)
+    play.draw()
+    play.holds(CARDS, [[SHOWN]], 1)
+    if request["do"] == "resume":
+        play.shows([[SHOWN]])
