@@ -91,3 +91,23 @@ def an_edit_that_ends_each_connection_comes_to_an_end(driver):
         play.cut()
         play.accept()
     play.ended(key, unknown=True)
+
+
+@case(
+    "An edit with a base that is sent again goes before edits that were made later and were not "
+    "sent: behind them it would be stale."
+)
+def an_edit_that_is_sent_again_goes_before_later_ones(driver):
+    play = begun(driver)
+    key = play.edit(push("first"), base=1)
+    for card in range(40):
+        play.edit(push(card))
+    play.driver.look()
+    play.driver.said.clear()
+    play.cut()
+    is_sent_again = play.end_of(key) is None
+    back(play)
+    play.talk()
+    play.holds_present(CARDS)
+    if is_sent_again:
+        play.ended(key, done=2)

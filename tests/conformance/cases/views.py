@@ -1,4 +1,5 @@
 """Other views."""
+from driver import Failed
 from .common import CARDS, back, begun, case, push, replace
 
 
@@ -40,15 +41,25 @@ def a_refused_view_leaves_the_one_before(driver):
     back(play)
     play.talk()
     play.holds_present(CARDS)
+    # The view before is watched there, and not merely left as it is.
+    play.relay.edit(push("salt"))
+    play.talk()
+    play.holds_present(CARDS)
 
 
-@case("Of two views that are asked for one after the other the second one is held in the end.")
+@case(
+    "Of two views that are asked for one after the other the second one is held in the end. The "
+    "first watch ends with its own slots or with those, and not with the ones held before."
+)
 def two_views_one_after_the_other(driver):
     play = begun(driver)
-    play.watch(["/n"])
+    first = play.watch(["/n"])
     play.watch(["/players"])
     play.talk()
     play.holds_present(["/players"])
+    shown = (play.end_of(first) or {}).get("shown")
+    if shown not in (None, [[1]], [[{"ann": 3}]]):
+        raise Failed(f"watch {first} shows {shown}, which are the slots of neither view")
 
 
 @case(
