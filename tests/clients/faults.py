@@ -7,6 +7,7 @@ import re
 import sys
 
 sys.path.append(str(pathlib.Path(__file__).resolve().parents[1]))
+from support import protocol
 from support.play import play, shows
 from support.relay import ROOT
 
@@ -23,16 +24,9 @@ def table(path):
     return re.findall(TABLES[path], (ROOT / "clients" / path).read_text(), re.MULTILINE)
 
 
-def words():
-    """Those of the protocol, in the paragraph that lists them."""
-    text = (ROOT / "docs/PROTOCOL.md").read_text()
-    listed = re.search(r"The words of `fault`: (.*?)Only a refusal with", text, re.DOTALL)[1]
-    return set(re.findall(r"`([a-z-]+)`", listed)) - {"base"}
-
-
 @shows
 def each_word_of_the_protocol_has_advice_and_no_other():
-    wanted = words() | OWN
+    wanted = {*protocol.faults(), *OWN}
     assert len(wanted) > 20, wanted
     for path in TABLES:
         there = [word for word, _ in table(path)]
