@@ -227,6 +227,8 @@ func failed(err error) map[string]any {
 		return map[string]any{"refused": refused.Fault, "at": refused.At, "rev": refused.Rev}
 	case errors.As(err, &unknown):
 		return map[string]any{"unknown": true}
+	case errors.Is(err, relay.ErrSuperseded):
+		return map[string]any{"superseded": true}
 	}
 	return map[string]any{"closed": true}
 }

@@ -163,8 +163,10 @@ public final class Driver implements Connector {
             if (cause == null) told.set(word, value);
             else if (cause instanceof RelayException.Refused refused) {
                 told.put("refused", refused.fault).put("at", refused.at).put("rev", refused.rev);
+            } else if (cause instanceof RelayException.Unknown) {
+                told.put("unknown", true);
             } else {
-                told.put(cause instanceof RelayException.Unknown ? "unknown" : "closed", true);
+                told.put(cause instanceof RelayException.Superseded ? "superseded" : "closed", true);
             }
             tell(told);
         });

@@ -49,7 +49,7 @@ def a_refused_view_leaves_the_one_before(driver):
 
 @case(
     "Of two views that are asked for one after the other the second one is held in the end. The "
-    "first watch ends with its own slots or with those, and not with the ones held before."
+    "first watch ends with its own slots, or as superseded, and never with other slots."
 )
 def two_views_one_after_the_other(driver):
     play = begun(driver)
@@ -57,9 +57,9 @@ def two_views_one_after_the_other(driver):
     play.watch(["/players"])
     play.talk()
     play.holds_present(["/players"])
-    shown = (play.end_of(first) or {}).get("shown")
-    if shown not in (None, [[1]], [[{"ann": 3}]]):
-        raise Failed(f"watch {first} shows {shown}, which are the slots of neither view")
+    end = play.end_of(first) or {}
+    if end.get("shown") != [[1]] and not end.get("superseded"):
+        raise Failed(f"watch {first} ends with {end}, and not with its slots or as superseded")
 
 
 @case(

@@ -38,6 +38,7 @@ const ends = (key, word, asked) =>
     ({ name, fault, at, rev, message }) => {
       if (name === "Refused") tell({ ends: key, refused: fault, at, rev });
       else if (name === "Unknown") tell({ ends: key, unknown: true });
+      else if (name === "Superseded") tell({ ends: key, superseded: true });
       else if (name === "Closed") tell({ ends: key, closed: true });
       else tell({ ends: key, invalid: message });
     },

@@ -101,6 +101,8 @@ class Driver:
             tell(ends=key, refused=refused.fault, at=refused.at, rev=refused.rev)
         except relay_client.Unknown:
             tell(ends=key, unknown=True)
+        except relay_client.Superseded:
+            tell(ends=key, superseded=True)
         except relay_client.Closed:
             tell(ends=key, closed=True)
 
