@@ -1882,7 +1882,7 @@ const REPLIES = new Map([
  *
  * @typedef {{ epoch: number, rev: number }} Welcome
  * @typedef {{
- *   request: { do?: string },
+ *   request: { do?: string, [member: string]: unknown },
  *   id?: number,
  *   answered: (reply: any) => void,
  *   ahead?: (welcome: Welcome) => Asked | typeof WAITS | null | undefined,
