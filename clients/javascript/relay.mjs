@@ -469,12 +469,20 @@ function checked(value, path = []) {
 function members(value, path) {
   const { toJSON } = /** @type {any} */ (value);
   if (typeof toJSON === "function") return checked(toJSON.call(value), path);
-  const kind = Object.prototype.toString.call(value).slice(8, -1);
+  const kind = kindOf(value);
   if (kind !== "Object") throw wrong(path, `is a ${kind}, which JSON cannot say`);
   return Object.fromEntries(Object.entries(value).map(([name, part]) => {
     const at = [...path, name];
     return [wellFormed(name, at), checked(part, at)];
   }));
+}
+
+/**
+ * The kind of an object, as "Map"; "Object" of a plain one, and of one of a class of one's own.
+ * @param {object} value
+ */
+function kindOf(value) {
+  return Object.prototype.toString.call(value).slice(8, -1);
 }
 
 /** @param {number} value @param {readonly (string | number)[]} path */
@@ -562,7 +570,7 @@ function same(one, other) {
   );
 }
 
-return { checked, frozen, isContainer, isObject, parsed, same };
+return { checked, frozen, isContainer, isObject, kindOf, parsed, same };
 })();
 
 const patchModule = (() => {
@@ -3073,10 +3081,17 @@ class Queue {
 
   /** @param {readonly { kept?: Kept }[]} asked What waits now. */
   keep(asked) {
-    if (this.#storage === null) return;
+    const storage = this.#storage;
+    if (storage === null) return;
     const waiting = asked.flatMap(({ kept }) => (kept === undefined ? [] : [kept]));
-    if (waiting.length > 0) this.#storage.setItem(this.#key, JSON.stringify(waiting));
-    else this.#storage.removeItem(this.#key);
+    if (waiting.length === 0) return storage.removeItem(this.#key);
+    try {
+      storage.setItem(this.#key, JSON.stringify(waiting));
+    } catch (cause) {
+      // What was kept before may be done by then, and would be sent once more.
+      storage.removeItem(this.#key);
+      console.warn("relay: edits that wait for the connection end with this page:", cause);
+    }
   }
 
   /**
@@ -3170,7 +3185,7 @@ const nodeModule = (() => {
 // The parts of a draft: what was seen, each part by where it stood, and what is made of it. A part
 // keeps what it is when it is moved, so that the patch can be a move. Containers are opened when
 // they are looked into.
-const { checked, isContainer, isObject } = jsonModule;
+const { checked, isContainer, isObject, kindOf } = jsonModule;
 const { child } = knownModule;
 const { index, spelled } = pointerModule;
 
@@ -3306,7 +3321,9 @@ function partsOf(value) {
  * @param {readonly (string | number)[]} [path]
  */
 function put(value, nodeOf, path) {
-  const isPlain = Array.isArray(value) || (isObject(value) && !("toJSON" in value));
+  const isPlain =
+    Array.isArray(value) ||
+    (isObject(value) && kindOf(value) === "Object" && !("toJSON" in value));
   return (
     nodeOf(value) ??
     new Node({ is: "value", value: isPlain ? value : checked(value, path) }, null)
@@ -4165,9 +4182,24 @@ class Difference {
    */
   #write(node, op, token, kid) {
     const path = this.#pathTo(node, token);
-    // Of a part of what was seen that is written as a value all of it is told.
+    const value = this.#standing(kid);
+    // Of a part of what was seen that is written as a value all of it is told. It stands where it
+    // is written from then on, and no more in what was taken away with it.
     if (kid.origin !== null) this.#draft.see(kid);
-    this.#emit(node, { op, path, value: kid.value });
+    if (this.#holders.has(kid)) this.#take(kid);
+    this.#emit(node, { op, path, value });
+  }
+
+  /**
+   * The value that a part has by now. What it has besides in the draft is led to it later.
+   * @param {Node} node
+   * @returns {any}
+   */
+  #standing(node) {
+    const kids = this.#kids.get(node);
+    if (kids === undefined) return node.value;
+    if (Array.isArray(kids)) return kids.map((kid) => this.#standing(kid));
+    return Object.fromEntries([...kids].map(([name, kid]) => [name, this.#standing(kid)]));
   }
 
   /**
@@ -4176,7 +4208,12 @@ class Difference {
    */
   #move(node, from, token, kid) {
     this.#take(kid);
-    this.#emit(node, { op: "move", from: spelled(from), path: this.#pathTo(node, token) });
+    const [place, path] = [spelled(from), this.#pathTo(node, token)];
+    if (!path.startsWith(`${place}/`)) return this.#emit(node, { op: "move", from: place, path });
+    // What stood behind it has its index by now, and a move into that would be one into itself.
+    this.#draft.see(kid);
+    this.#emit(node, { op: "remove", path: place });
+    this.#emit(node, { op: "add", path, value: this.#standing(kid) });
   }
 
   /** @param {Node} kid */

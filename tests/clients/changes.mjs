@@ -193,3 +193,60 @@ function* paths(value, path) {
     yield* paths(part, `${path}/${name.replaceAll("~", "~0").replaceAll("/", "~1")}`);
   }
 }
+
+/**
+ * A function that takes parts out of a document, changes some of them, and puts most of them in at
+ * other places, which may be within one another.
+ */
+export function randomCarries(random, document) {
+  const plain = structuredClone(document);
+  const steps = [];
+  for (let number = 1 + random(4); number > 0; number -= 1) {
+    const full = containers(plain).filter((path) => Object.keys(at(plain, path)).length > 0);
+    if (full.length === 0) break;
+    const from = pick(random, full);
+    const step = { from, name: pick(random, Object.keys(at(plain, from))), number };
+    const part = takeOut(plain, step);
+    step.to = random(5) === 0 ? null : pick(random, containers(plain));
+    Object.assign(step, { place: random(4), isMarked: [random(3) === 0, random(3) === 0] });
+    putIn(plain, part, step);
+    steps.push(step);
+  }
+  const make = (document) => {
+    for (const step of steps) putIn(document, takeOut(document, step), step);
+  };
+  make.words = JSON.stringify(steps);
+  return make;
+}
+
+/** The paths of the containers in a value. */
+function containers(value, path = []) {
+  if (!isContainer(value)) return [];
+  const within = Object.entries(value).flatMap(([name, part]) => containers(part, [...path, name]));
+  return [path, ...within];
+}
+
+const at = (document, path) => path.reduce((part, name) => part[name], document);
+
+function takeOut(document, { from, name }) {
+  const holder = at(document, from);
+  if (Array.isArray(holder)) return holder.splice(Number(name), 1)[0];
+  const part = holder[name];
+  delete holder[name];
+  return part;
+}
+
+function putIn(document, part, { to, place, isMarked: [before, after], number }) {
+  if (before) mark(part, number);
+  if (to !== null) {
+    const holder = at(document, to);
+    if (Array.isArray(holder)) holder.splice(Math.min(place, holder.length), 0, part);
+    else holder[NAMES[place]] = part;
+  }
+  if (after) mark(part, number);
+}
+
+function mark(part, number) {
+  if (Array.isArray(part)) part.push(number);
+  else if (isContainer(part)) part.marked = number;
+}

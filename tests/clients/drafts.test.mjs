@@ -5,7 +5,7 @@ import { Draft } from "../../clients/javascript/src/draft.mjs";
 import { Misfit } from "../../clients/javascript/src/patch.mjs";
 import { guarded } from "../../clients/javascript/src/guard.mjs";
 import { applied, knownBy } from "../../clients/javascript/src/known.mjs";
-import { chance, randomChange, randomDocument, randomOther } from "./changes.mjs";
+import { chance, randomCarries, randomChange, randomDocument, randomOther } from "./changes.mjs";
 
 const ROUNDS = 3000;
 
@@ -40,6 +40,23 @@ test("the patch of a random draft leads to what the function makes of the value 
       const led = made === null ? document : applied(document, made.patch);
       assert.deepEqual(led, plain, `seed ${seed}: ${before} ${make.words} ${JSON.stringify(made)}`);
       assert.equal(JSON.stringify(document), before, `seed ${seed}: what was seen is written to`);
+    }
+  }
+});
+
+test("parts that are taken out, changed and put in elsewhere are there once, as they are", () => {
+  for (let seed = 1; seed <= ROUNDS; seed += 1) {
+    const random = chance(seed);
+    const document = randomDocument(random);
+    const make = randomCarries(random, document);
+    for (const guard of ["values", "base", "none"]) {
+      const { made, plain } = drafted(document, make, guard);
+      const patch = made?.patch ?? [];
+      const words = `seed ${seed}: ${JSON.stringify([document, patch])} ${make.words}`;
+      assert.deepEqual(applied(document, patch), plain, words);
+      // The relay refuses a move into itself, also where another part stands there by then.
+      const isInto = ({ op, from, path }) => op === "move" && path.startsWith(`${from}/`);
+      assert.ok(!patch.some(isInto), words);
     }
   }
 });
@@ -149,6 +166,9 @@ test("a value that the relay would refuse is named by its place", () => {
     [(document) => document.items.push({ n: 1.25 }), "/items/1/n is 1.25, no whole number"],
     [(document) => (document.new = { "a/b": undefined }), "/new/a~1b is undefined, which JSON"],
     [(document) => (document.new = cyclic), "is too deep, or contains itself"],
+    [(document) => (document.new = new Map([["a", 1]])), "/new is a Map, which JSON cannot say"],
+    [(document) => document.items.push({ n: new Set() }), "/items/1/n is a Set, which JSON cannot"],
+    [(document) => (document.new = { m: new Uint8Array(1) }), "/new/m is a Uint8Array, which JSON"],
   ]) {
     const words = new RegExp(place);
     const draft = new Draft(knownBy([""], [[{ items: [{ n: 1 }] }]]));

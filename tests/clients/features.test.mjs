@@ -373,6 +373,33 @@ test("what a page left in its storage the next one sends", async (t) => {
   assert.equal(kept.size, 0);
 });
 
+test("a storage that is full loses no edit, and keeps none that is older", async (t) => {
+  const { warn } = console;
+  t.after(() => (console.warn = warn));
+  const warned = [];
+  console.warn = (...words) => warned.push(words.join(" "));
+  const kept = new Map();
+  const storage = {
+    getItem: (key) => kept.get(key) ?? null,
+    setItem(key, text) {
+      if (text.length > 100) throw new Error("it is full");
+      kept.set(key, text);
+    },
+    removeItem: (key) => kept.delete(key),
+  };
+  const board = connect(await begunRoom(), { view: ["/cards"], storage, storageKey: "q" });
+  t.after(() => board.close());
+  const push = (value) => board.edit([{ op: "add", path: "/cards/-", value }]);
+  const edits = [push("one")];
+  assert.equal(kept.size, 1);
+  edits.push(push("two"), push("three"));
+  assert.equal(kept.size, 0);
+  await Promise.all(edits);
+  await board.sync();
+  assert.deepEqual(board.slots, [[["milk", "bread", "one", "two", "three"]]]);
+  assert.match(warned[0], /^relay: edits that wait .* end with this page: Error: it is full/);
+});
+
 test("a storage in which something else stands is empty", async (t) => {
   const url = await begunRoom();
   for (const text of ["", "{", "7", "null", '{"patch":[]}', '[null,5,"x",[],{},{"patch":7}]']) {

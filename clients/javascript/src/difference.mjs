@@ -238,9 +238,24 @@ class Difference {
    */
   #write(node, op, token, kid) {
     const path = this.#pathTo(node, token);
-    // Of a part of what was seen that is written as a value all of it is told.
+    const value = this.#standing(kid);
+    // Of a part of what was seen that is written as a value all of it is told. It stands where it
+    // is written from then on, and no more in what was taken away with it.
     if (kid.origin !== null) this.#draft.see(kid);
-    this.#emit(node, { op, path, value: kid.value });
+    if (this.#holders.has(kid)) this.#take(kid);
+    this.#emit(node, { op, path, value });
+  }
+
+  /**
+   * The value that a part has by now. What it has besides in the draft is led to it later.
+   * @param {Node} node
+   * @returns {any}
+   */
+  #standing(node) {
+    const kids = this.#kids.get(node);
+    if (kids === undefined) return node.value;
+    if (Array.isArray(kids)) return kids.map((kid) => this.#standing(kid));
+    return Object.fromEntries([...kids].map(([name, kid]) => [name, this.#standing(kid)]));
   }
 
   /**
@@ -249,7 +264,12 @@ class Difference {
    */
   #move(node, from, token, kid) {
     this.#take(kid);
-    this.#emit(node, { op: "move", from: spelled(from), path: this.#pathTo(node, token) });
+    const [place, path] = [spelled(from), this.#pathTo(node, token)];
+    if (!path.startsWith(`${place}/`)) return this.#emit(node, { op: "move", from: place, path });
+    // What stood behind it has its index by now, and a move into that would be one into itself.
+    this.#draft.see(kid);
+    this.#emit(node, { op: "remove", path: place });
+    this.#emit(node, { op: "add", path, value: this.#standing(kid) });
   }
 
   /** @param {Node} kid */

@@ -28,12 +28,20 @@ export function checked(value, path = []) {
 function members(value, path) {
   const { toJSON } = /** @type {any} */ (value);
   if (typeof toJSON === "function") return checked(toJSON.call(value), path);
-  const kind = Object.prototype.toString.call(value).slice(8, -1);
+  const kind = kindOf(value);
   if (kind !== "Object") throw wrong(path, `is a ${kind}, which JSON cannot say`);
   return Object.fromEntries(Object.entries(value).map(([name, part]) => {
     const at = [...path, name];
     return [wellFormed(name, at), checked(part, at)];
   }));
+}
+
+/**
+ * The kind of an object, as "Map"; "Object" of a plain one, and of one of a class of one's own.
+ * @param {object} value
+ */
+export function kindOf(value) {
+  return Object.prototype.toString.call(value).slice(8, -1);
 }
 
 /** @param {number} value @param {readonly (string | number)[]} path */

@@ -1,7 +1,7 @@
 // The parts of a draft: what was seen, each part by where it stood, and what is made of it. A part
 // keeps what it is when it is moved, so that the patch can be a move. Containers are opened when
 // they are looked into.
-import { checked, isContainer, isObject } from "./json.mjs";
+import { checked, isContainer, isObject, kindOf } from "./json.mjs";
 import { child } from "./known.mjs";
 import { index, spelled } from "./pointer.mjs";
 
@@ -137,7 +137,9 @@ function partsOf(value) {
  * @param {readonly (string | number)[]} [path]
  */
 export function put(value, nodeOf, path) {
-  const isPlain = Array.isArray(value) || (isObject(value) && !("toJSON" in value));
+  const isPlain =
+    Array.isArray(value) ||
+    (isObject(value) && kindOf(value) === "Object" && !("toJSON" in value));
   return (
     nodeOf(value) ??
     new Node({ is: "value", value: isPlain ? value : checked(value, path) }, null)

@@ -34,10 +34,17 @@ export class Queue {
 
   /** @param {readonly { kept?: Kept }[]} asked What waits now. */
   keep(asked) {
-    if (this.#storage === null) return;
+    const storage = this.#storage;
+    if (storage === null) return;
     const waiting = asked.flatMap(({ kept }) => (kept === undefined ? [] : [kept]));
-    if (waiting.length > 0) this.#storage.setItem(this.#key, JSON.stringify(waiting));
-    else this.#storage.removeItem(this.#key);
+    if (waiting.length === 0) return storage.removeItem(this.#key);
+    try {
+      storage.setItem(this.#key, JSON.stringify(waiting));
+    } catch (cause) {
+      // What was kept before may be done by then, and would be sent once more.
+      storage.removeItem(this.#key);
+      console.warn("relay: edits that wait for the connection end with this page:", cause);
+    }
   }
 
   /**

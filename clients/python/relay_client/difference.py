@@ -67,14 +67,12 @@ class Difference:
         origin = self._path(kid)
         before = members.get(name)
         if origin is not None:
-            self._take(kid)
-            self._emit(node, op="move", **{"from": origin}, path=self._path_to(node, name))
+            self._move(node, origin, name, kid)
         elif before is not None and not before.is_open and same(before.value, kid.value):
             # What is set to what it is makes no change, so it has to be that.
             self._draft.see(before)
         else:
-            op = "add" if before is None else "replace"
-            self._emit(node, op=op, path=self._path_to(node, name), value=self._value_of(kid))
+            self._write(node, "add" if before is None else "replace", name, kid)
         if before is not None:
             self._holders.pop(before, None)
         members[name] = kid
@@ -152,14 +150,12 @@ class Difference:
         origin = self._path(kid)
         if origin is not None:
             at -= kid in kids[:at]
-            self._take(kid)
-            self._emit(node, op="move", **{"from": origin}, path=self._path_to(node, str(at)))
+            self._move(node, origin, str(at), kid)
             return self._insert(node, kids, at, kid)
-        value = self._value_of(kid)
         if at == len(kids) or is_kept(kids[at]):
-            self._emit(node, op="add", path=self._path_to(node, str(at)), value=value)
+            self._write(node, "add", str(at), kid)
             return self._insert(node, kids, at, kid)
-        self._emit(node, op="replace", path=self._path_to(node, str(at)), value=value)
+        self._write(node, "replace", str(at), kid)
         self._holders.pop(kids[at], None)
         kids[at] = kid
         self._holders[kid] = node
@@ -167,13 +163,10 @@ class Difference:
 
     def _push_element(self, node: Node, kids: List[Node], kid: Node) -> None:
         origin = self._path(kid)
-        if origin is not None:
-            self._take(kid)
-        path = self._path_to(node, "-")
-        if origin is not None:
-            self._emit(node, op="move", **{"from": origin}, path=path)
+        if origin is None:
+            self._write(node, "add", "-", kid)
         else:
-            self._emit(node, op="add", path=path, value=self._value_of(kid))
+            self._move(node, origin, "-", kid)
         self._insert(node, kids, len(kids), kid)
         self._appended.add(kid)
 
@@ -192,11 +185,34 @@ class Difference:
         self._holders.pop(kids[at], None)
         del kids[at]
 
-    def _value_of(self, kid: Node) -> Json:
-        """Of a part of what was seen that is written as a value all of it is told."""
+    def _write(self, node: Node, op: str, token: str, kid: Node) -> None:
+        path, value = self._path_to(node, token), self._standing(kid)
+        # Of a part of what was seen that is written as a value all of it is told. It stands where
+        # it is written from then on, and no more in what was taken away with it.
         if kid.origin is not None:
             self._draft.see(kid)
-        return kid.value
+        if kid in self._holders:
+            self._take(kid)
+        self._emit(node, op=op, path=path, value=value)
+
+    def _move(self, node: Node, origin: Path, token: str, kid: Node) -> None:
+        self._take(kid)
+        path = self._path_to(node, token)
+        if len(path) <= len(origin) or path[: len(origin)] != origin:
+            return self._emit(node, op="move", **{"from": origin}, path=path)
+        # What stood behind it has its index by now, and a move into that would be one into itself.
+        self._draft.see(kid)
+        self._emit(node, op="remove", path=origin)
+        self._emit(node, op="add", path=path, value=self._standing(kid))
+
+    def _standing(self, node: Node) -> Json:
+        """The value that a part has by now. What it has besides in the draft is led to it later."""
+        kids = self._kids.get(node)
+        if kids is None:
+            return node.value
+        if isinstance(kids, list):
+            return [self._standing(kid) for kid in kids]
+        return {name: self._standing(kid) for name, kid in kids.items()}
 
     def _take(self, kid: Node) -> None:
         kids = self._kids[self._holders.pop(kid)]

@@ -201,6 +201,67 @@ def other_edit(chance, document):
     return {"op": "replace", "path": path, "value": made}
 
 
+class Carries:
+    """Takes parts out of a document, changes some of them, and puts most of them in at other
+    places, which may be within one another."""
+
+    def __init__(self, chance, document):
+        plain, self.steps = copy.deepcopy(document), []
+        for number in range(chance.randrange(1, 5)):
+            full = [path for path in containers(plain) if len(part_at(plain, path))]
+            if not full:
+                break
+            path = chance.choice(full)
+            part = part_at(plain, path)
+            name = chance.choice(list(part) if isinstance(part, dict) else range(len(part)))
+            taken = part.pop(name)
+            to = chance.choice(list(containers(plain))) if chance.randrange(5) else None
+            marked = (chance.randrange(3) == 0, chance.randrange(3) == 0)
+            step = (path, name, to, chance.randrange(4), marked, number)
+            self.put(plain, taken, step)
+            self.steps.append(step)
+
+    def __call__(self, document):
+        for step in self.steps:
+            path, name = step[:2]
+            self.put(document, part_at(document, path).pop(name), step)
+
+    @staticmethod
+    def put(document, part, step):
+        *_, to, place, (before, after), number = step
+        if before:
+            mark(part, number)
+        if to is not None:
+            holder = part_at(document, to)
+            if isinstance(holder, LISTS):
+                holder.insert(place, part)
+            else:
+                holder[NAMES[place]] = part
+        if after:
+            mark(part, number)
+
+
+def containers(part, path=()):
+    """The paths of the containers in a value."""
+    if isinstance(part, (list, dict)):
+        yield path
+        for name, below in part.items() if isinstance(part, dict) else enumerate(part):
+            yield from containers(below, (*path, name))
+
+
+def part_at(document, path):
+    for name in path:
+        document = document[name]
+    return document
+
+
+def mark(part, number):
+    if isinstance(part, LISTS):
+        part.append(number)
+    elif isinstance(part, OBJECTS):
+        part["marked"] = number
+
+
 def strict(part):
     """In which true is not 1."""
     return json.dumps(part, sort_keys=True)
@@ -218,6 +279,21 @@ class Drafts(unittest.TestCase):
                 words = f"seed {seed}: {before} {make.words} {made}"
                 self.assertEqual(strict(led), strict(plain), words)
                 self.assertEqual(strict(before), kept, f"{words}: what was seen is written to")
+
+    def test_parts_that_are_carried_elsewhere_are_there_once_as_they_are(self):
+        for seed in range(ROUNDS):
+            chance = random.Random(seed)
+            before = document(chance)
+            make = Carries(chance, before)
+            for guard in ("values", "base", "none"):
+                made, plain = drafted(before, make, guard)
+                patch = made.patch if made else []
+                words = f"seed {seed}: {before} {patch} {make.steps}"
+                self.assertEqual(strict(applied(before, patch)), strict(plain), words)
+                # The relay refuses a move into itself, also if another part stands there by then.
+                moves = [one for one in patch if one["op"] == "move"]
+                into = [one for one in moves if one["path"].startswith(f"{one['from']}/")]
+                self.assertEqual(into, [], words)
 
     def test_if_the_guard_holds_on_another_document_the_patch_does_what_the_function_does(self):
         counts = {"held": 0, "refused": 0, "based": 0}
