@@ -126,12 +126,18 @@ function findPutAways() {
 }
 
 async function bringBack({ list: k, place, value, index }) {
-  const from = `${AWAY}/${index}`;
   const path = `${LISTS[k].path}/${Math.min(place, list(board.slots[k][0]).length)}`;
-  const patch = [{ op: "test", path: from, value }, { op: "move", from, path }];
-  await board.edit(patch, { undo: false }).catch((cause) => {
-    say(cause.at === 0 ? ELSEWHERE : failure(cause));
-  });
+  // It stands further in front where others brought theirs back.
+  for (let at = index; at >= 0; at -= 1) {
+    const from = `${AWAY}/${at}`;
+    const patch = [{ op: "test", path: from, value }, { op: "move", from, path }];
+    try {
+      return await board.edit(patch, { undo: false });
+    } catch (cause) {
+      if (cause.at !== 0) return say(failure(cause));
+    }
+  }
+  say(ELSEWHERE);
 }
 
 function step(which) {

@@ -99,6 +99,16 @@ function lookAtNotes() {
   }
 }
 
+/** Offers the text of a note that goes while somebody writes in it, and had saved it. */
+function offerGone(shown) {
+  for (const [id, writing] of writings) {
+    const input = shapes.of(id)?.querySelector("textarea");
+    if (!input || Object.hasOwn(shown, id) || writing.text !== null) continue;
+    if (input.value === "") say(GONE);
+    else offerNote(unsaved.keep({ place: "new", text: input.value }), GONE);
+  }
+}
+
 /** Goes on with what an earlier page left. */
 function resumeNotes() {
   const notes = new Map(Object.keys(object(board.slots[0][0])).map((id) => [`note ${id}`, id]));

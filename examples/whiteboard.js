@@ -27,7 +27,9 @@ board.ready.then(resumeNotes, (cause) => say(failure(cause)));
 // What is shown.
 
 function draw({ slots, rev }) {
-  shapes.show(object(slots[0][0]));
+  const shown = object(slots[0][0]);
+  offerGone(shown);
+  shapes.show(shown);
   lookAtNotes();
   document.title = `Whiteboard, revision ${rev}`;
   tell(board.state);

@@ -127,6 +127,14 @@ async def undo_brings_back_a_card_that_was_put_away(place):
     same(await board.evaluate(WORD), None)
     await board.click(card(1, 3, ".off"))
     await board.until(text_of("#away"), "3 put away")
+    # Somebody else brings one back from in front of it.
+    await room.edit({"op": "remove", "path": "/away/0"})
+    await board.until(text_of("#away"), "2 put away")
+    await board.key("z", CTRL)
+    await board.until(LISTS, [["Buy milk", "Paint", "Sweep"], [], []])
+    same(await board.evaluate(WORD), None)
+    await board.click(card(1, 3, ".off"))
+    await board.until(text_of("#away"), "2 put away")
     await room.set([], "/away")
     await board.click("#undo")
     await board.until(WORD, "The card that was put away is not where it was left.")
@@ -312,6 +320,21 @@ async def a_text_of_a_note_that_somebody_deleted_is_offered_again(place):
         await bob.focus(".shape")
         await bob.key("Enter")
         await typed_late(bob, "Ours")
+        await room.set({}, "/shapes")
+        await bob.until(OFFERED, ["That note is gone. You wrote “Ours”."])
+        await choose(bob, "Put it on a new note")
+        await becomes(room.document, lambda seen: texts_in(seen) == ["Ours"])
+
+
+@in_both
+async def whoever_writes_a_note_is_told_that_somebody_deleted_it(place):
+    async with slow(place, "whiteboard", "saved", {"shapes": {"a": NOTE}}) as (bob, room):
+        await bob.until(TEXTS, [""])
+        await bob.focus(".shape")
+        await bob.key("Enter")
+        await bob.type("Ours")
+        await becomes(room.document, lambda seen: texts_in(seen) == ["Ours"])
+        await bob.until("board.pending", 0)
         await room.set({}, "/shapes")
         await bob.until(OFFERED, ["That note is gone. You wrote “Ours”."])
         await choose(bob, "Put it on a new note")
