@@ -166,7 +166,8 @@ public final class Driver implements Connector {
             } else if (cause instanceof RelayException.Unknown) {
                 told.put("unknown", true);
             } else {
-                told.put(cause instanceof RelayException.Superseded ? "superseded" : "closed", true);
+                boolean isLate = cause instanceof RelayException.Superseded;
+                told.put(isLate ? "superseded" : "closed", true);
             }
             tell(told);
         });
