@@ -230,7 +230,7 @@ def running_from_the_unit_to_the_keeper_in_a_database():
     until(lambda: "kept" in run(f"PGPASSWORD=secret relay-keeper export {store}"))
     # The relay with a store runs over the backup, and its files from before are beside it.
     assert is_up(9082)
-    run("cd /var/lib/relay/8082 && ls rooms.db before/rooms.db")
+    run("cd /var/lib/relay/8082 && ls rooms.db before.*/rooms.db")
 
 
 def health(admin):
